@@ -1,0 +1,189 @@
+-- Every case of `cases` holds: a test that antt computes over the whole list, and one law that takes a passed test to the claim. A claim about
+-- every list of points is tested on the enumeration of all of them. Assumes nothing.
+use Prim.Native.Nat.{ℕ, zero, suc, _<_, _≤_}
+use mathlib.Core.Path.{_≡_, refl, sym, ap, _∙_, subst}
+use mathlib.Core.Bool.{Bool, true, false, not, _&&_, _||_, Bool·beq, false≢true}
+use mathlib.Core.Logic.{by-cases}
+use mathlib.Core.List.{List, [], _∷_, List·Memᴰ, List·Memᴰ·head, List·Memᴰ·tail}
+use native.Mathlib.Omega.{arith}
+use native.Mathlib.Decide.{ℕ-discrete, decLe}
+use native.Mathlib.Nat.{le-of-eq, le-trans}
+use lib.Dec.{eqb, ltb, leb}
+use borrow.Author.Tests.{eqb-true, leb-true, leb-false, le-leb, ltb-true, not-true}
+use Rattle.model.specs.Sets.{Lines, countBelow}
+use Rattle.model.specs.Task.{Task, blockCount}
+use Rattle.model.specs.Lines.{lineOf, onLine, lastRead, firstRead, anyRead, readsOf, preempterReads, blockAt, stateAfter, nextRead, useful, accessed, accessedUseful, evicted}
+use Rattle.model.specs.Lists.{steps, regions, every, total, lowest, wellFormed, among, sameList, risingLists, allLists}
+use Rattle.model.specs.Regions.{unionAfter, timeAfter, loaded, regionLines, regionLength, regionFits, regionCost, lines, cost, fits, BestList}
+use Rattle.model.specs.Answers.{pricing, number, place}
+use Rattle.model.specs.Cases.{Case, usefulAre, accessedUsefulAre, loadedAre, lengthIs, bestAre, fittingAre, noneFits, priced, refused, lineIs, listed, Are, Holds, cases}
+use Rattle.model.specs.declared.Refusal.{Refusal}
+use Rattle.model.specs.declared.Verdict.{Verdict}
+use Rattle.model.specs.declared.Verdict.the-variants.{Accepted, Refused}
+use Rattle.model.proofs.Lists.{and-split, same-list, list-same, enumerated}
+
+-- the tests
+
+agreeBelow : ℕ → Lines → Lines → Bool
+agreeBelow zero s d = true
+agreeBelow (suc n) s d = Bool·beq (s n) (d n) && agreeBelow n s d
+
+everyList : (List ℕ → Bool) → List (List ℕ) → Bool
+everyList q [] = true
+everyList q (ps ∷ pss) = q ps && everyList q pss
+
+-- on every list
+onAll : Task → (List ℕ → Bool) → Bool
+onAll t q = ltb 0 (blockCount t) && everyList q (allLists (blockCount t))
+
+-- the well-formed lists with q are these
+exactly : Task → (List ℕ → Bool) → List (List ℕ) → Bool
+exactly t q pss = everyList (wellFormed (blockCount t)) pss && onAll t (λ ps. Bool·beq (q ps) (among ps pss))
+
+some : List (List ℕ) → Bool
+some [] = false
+some (ps ∷ pss) = true
+
+accepted : Verdict → Bool
+accepted Accepted = true
+accepted (Refused r) = false
+
+refusedBy : ℕ → ℕ → Verdict → Bool
+refusedBy n i Accepted = false
+refusedBy n i (Refused r) = eqb (number r) n && eqb (place r) i
+
+test : Case → Bool
+test (usefulAre t k ds) = agreeBelow 512 (useful t k) (listed ds)
+test (accessedUsefulAre t k ds) = agreeBelow 512 (accessedUseful t k) (listed ds)
+test (loadedAre t a b ds) = agreeBelow 512 (loaded t a b) (listed ds)
+test (lengthIs t a b l) = eqb (regionLength t a b) l
+test (bestAre t p pss) = some pss && everyList (λ ps. eqb (cost t ps) p) pss && exactly t (λ ps. fits t ps && leb (cost t ps) p) pss
+test (fittingAre t pss) = exactly t (fits t) pss
+test (noneFits t) = onAll t (λ ps. not (fits t ps))
+test (priced t ps l p) = accepted (pricing t ps) && eqb (lines t ps) l && eqb (cost t ps) p
+test (refused t ps n i) = refusedBy n i (pricing t ps)
+test (lineIs t m c) = eqb (lineOf t m) c
+
+everyCase : List Case → Bool
+everyCase [] = true
+everyCase (c ∷ cs) = test c && everyCase cs
+
+-- what a passed test says
+
+same-bool : (a b : Bool) → Bool·beq a b ≡ true → a ≡ b
+same-bool true true h = refl
+same-bool true false h = absurd (false≢true h)
+same-bool false true h = absurd (false≢true h)
+same-bool false false h = refl
+
+or-cases : {A : Type 0} (a b : Bool) → (a || b) ≡ true → (a ≡ true → A) → (b ≡ true → A) → A
+or-cases true b h f g = f refl
+or-cases false b h f g = g h
+
+agree : (n : ℕ) (s d : Lines) → agreeBelow n s d ≡ true → (c : ℕ) → c < n → s c ≡ d c
+unfolding agreeBelow
+agree zero s d h c l = absurd (omega arith)
+agree (suc n) s d h c l =
+    let both = and-split (Bool·beq (s n) (d n)) (agreeBelow n s d) h in
+    by-cases (ℕ-discrete c n) (λ e. rw e (same-bool (s n) (d n) (both .0))) (λ e. agree n s d (both .1) c (omega arith))
+
+on-listed : (q : List ℕ → Bool) (pss : List (List ℕ)) → everyList q pss ≡ true → (ps : List ℕ) → among ps pss ≡ true → q ps ≡ true
+unfolding everyList among
+on-listed q [] h ps m = absurd (false≢true m)
+on-listed q (qs ∷ qss) h ps m =
+    let both = and-split (q qs) (everyList q qss) h in
+    or-cases (sameList ps qs) (among ps qss) m (λ e. rw (same-list ps qs e) (both .0)) (λ m′. on-listed q qss (both .1) ps m′)
+
+on-all : (t : Task) (q : List ℕ → Bool) → onAll t q ≡ true → (ps : List ℕ) → wellFormed (blockCount t) ps ≡ true → q ps ≡ true
+unfolding onAll
+on-all t q h ps w =
+    let both = and-split (ltb 0 (blockCount t)) (everyList q (allLists (blockCount t))) h in
+    on-listed q (allLists (blockCount t)) (both .1) ps (enumerated (blockCount t) (ltb-true 0 _ (both .0)) ps ∙ w)
+
+exact : (t : Task) (q : List ℕ → Bool) (pss : List (List ℕ)) → exactly t q pss ≡ true
+    → (ps : List ℕ) → (wellFormed (blockCount t) ps && q ps) ≡ among ps pss
+unfolding exactly
+exact t q pss h ps = go (wellFormed (blockCount t) ps) refl (among ps pss) refl
+  where
+    both : (everyList (wellFormed (blockCount t)) pss ≡ true) × (onAll t (λ ps. Bool·beq (q ps) (among ps pss)) ≡ true)
+    both = and-split (everyList (wellFormed (blockCount t)) pss) (onAll t (λ ps. Bool·beq (q ps) (among ps pss))) h
+
+    go : (w : Bool) → wellFormed (blockCount t) ps ≡ w → (m : Bool) → among ps pss ≡ m → (w && q ps) ≡ m
+    go true e m f = same-bool (q ps) (among ps pss) (on-all t (λ ps. Bool·beq (q ps) (among ps pss)) (both .1) ps e) ∙ f
+    go false e true f = absurd (false≢true (sym e ∙ on-listed (wellFormed (blockCount t)) pss (both .0) ps f))
+    go false e false f = refl
+
+first-of : (pss : List (List ℕ)) → some pss ≡ true → (ps : List ℕ) × (among ps pss ≡ true)
+unfolding some among
+first-of [] h = absurd (false≢true h)
+first-of (ps ∷ pss) h = (ps, simp (list-same ps))
+
+-- the lists that fit at cost p or less all cost p: no list that fits costs less, and if there is one, they are the best
+module _ (t : Task) (p : ℕ) (pss : List (List ℕ)) (e : everyList (λ ps. eqb (cost t ps) p) pss ≡ true)
+    (x : (ps : List ℕ) → (wellFormed (blockCount t) ps && (fits t ps && leb (cost t ps) p)) ≡ among ps pss) where
+  costs : (ps : List ℕ) → among ps pss ≡ true → cost t ps ≡ p
+  costs ps m = eqb-true (cost t ps) p (on-listed (λ ps. eqb (cost t ps) p) pss e ps m)
+
+  parts : (ps : List ℕ) → among ps pss ≡ true → (wellFormed (blockCount t) ps ≡ true) × (fits t ps ≡ true)
+  parts ps m =
+      let two = and-split (wellFormed (blockCount t) ps) (fits t ps && leb (cost t ps) p) (x ps ∙ m) in
+      (two .0, and-split (fits t ps) (leb (cost t ps) p) (two .1) .0)
+
+  within : (ps : List ℕ) → wellFormed (blockCount t) ps ≡ true → fits t ps ≡ true → cost t ps ≤ p → among ps pss ≡ true
+  within ps w f l = sym (x ps) ∙ simp (w, f, le-leb (cost t ps) p l)
+
+  at-least : (ps : List ℕ) → wellFormed (blockCount t) ps ≡ true → fits t ps ≡ true → p ≤ cost t ps
+  at-least ps w f = by-cases (decLe (cost t ps) p) (λ l. le-of-eq (sym (costs ps (within ps w f l)))) (λ l. omega arith)
+
+  best : some pss ≡ true → Holds (bestAre t p pss)
+  best s = (
+    λ ps m.
+        (record { well-formed = parts ps m .0; fits = parts ps m .1; least = λ qs w f. le-trans (le-of-eq (costs ps m)) (at-least qs w f) }, costs ps m),
+    λ ps b.
+        let (qs, m) = first-of pss s in
+        within ps (b .well-formed) (b .fits) (le-trans (b .least qs (parts qs m .0) (parts qs m .1)) (le-of-eq (costs qs m))),
+  )
+
+is-accepted : (v : Verdict) → accepted v ≡ true → v ≡ Accepted
+unfolding accepted
+is-accepted Accepted h = refl
+is-accepted (Refused r) h = absurd (false≢true h)
+
+is-refused : (n i : ℕ) (v : Verdict) → refusedBy n i v ≡ true → (r : Refusal) × (v ≡ Refused r) × (number r ≡ n) × (place r ≡ i)
+unfolding refusedBy
+is-refused n i Accepted h = absurd (false≢true h)
+is-refused n i (Refused r) h =
+    let both = and-split (eqb (number r) n) (eqb (place r) i) h in
+    (r, refl, eqb-true (number r) n (both .0), eqb-true (place r) i (both .1))
+
+sound : (c : Case) → test c ≡ true → Holds c
+unfolding test onLine
+sound (usefulAre t k ds) h = agree 512 (useful t k) (listed ds) h
+sound (accessedUsefulAre t k ds) h = agree 512 (accessedUseful t k) (listed ds) h
+sound (loadedAre t a b ds) h = agree 512 (loaded t a b) (listed ds) h
+sound (lengthIs t a b l) h = eqb-true (regionLength t a b) l h
+sound (bestAre t p pss) h =
+    let three = and-split (some pss && everyList (λ ps. eqb (cost t ps) p) pss) (exactly t (λ ps. fits t ps && leb (cost t ps) p) pss) h in
+    let two = and-split (some pss) (everyList (λ ps. eqb (cost t ps) p) pss) (three .0) in
+    best t p pss (two .1) (exact t (λ ps. fits t ps && leb (cost t ps) p) pss (three .1)) (two .0)
+sound (fittingAre t pss) h = exact t (fits t) pss h
+sound (noneFits t) h = λ ps w f. false≢true (sym (not-true (fits t ps) (on-all t (λ ps. not (fits t ps)) h ps w)) ∙ f)
+sound (priced t ps l p) h =
+    let three = and-split (accepted (pricing t ps) && eqb (lines t ps) l) (eqb (cost t ps) p) h in
+    let two = and-split (accepted (pricing t ps)) (eqb (lines t ps) l) (three .0) in
+    (is-accepted (pricing t ps) (two .0), eqb-true (lines t ps) l (two .1), eqb-true (cost t ps) p (three .1))
+sound (refused t ps n i) h = is-refused n i (pricing t ps) h
+sound (lineIs t m c) h = λ d. ap (λ (x : ℕ). eqb x d) (eqb-true (lineOf t m) c h)
+
+all-pass : everyCase cases ≡ true
+unfolding everyCase test agreeBelow everyList onAll exactly some accepted refusedBy listed useful stateAfter nextRead lastRead firstRead readsOf lineOf onLine accessed anyRead blockAt accessedUseful evicted preempterReads loaded unionAfter regionLines countBelow regionLength timeAfter regionFits regionCost every total lowest regions steps among sameList risingLists
+all-pass = refl
+
+held : (cs : List Case) → everyCase cs ≡ true → (c : Case) → List·Memᴰ c cs → Holds c
+unfolding everyCase
+held (d ∷ ds) h c (List·Memᴰ·head e) = rw e (sound d (and-split (test d) (everyCase ds) h .0))
+held (d ∷ ds) h c (List·Memᴰ·tail m) = held ds (and-split (test d) (everyCase ds) h .1) c m
+
+-- File Seven's cases and appendix A's, all at once
+pub cases-hold : (c : Case) → List·Memᴰ c cases → Holds c
+cases-hold = held cases all-pass

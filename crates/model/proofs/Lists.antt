@@ -1,0 +1,76 @@
+-- Laws of lists of points: the enumeration has every well-formed list and no other.
+-- Assumes nothing.
+use Prim.Native.Nat.{ℕ, zero, suc, _+_, _-_, _<_, _≤_}
+use mathlib.Core.Path.{_≡_, refl, sym, ap, ap₂, _∙_}
+use mathlib.Core.Bool.{Bool, true, false, _&&_, _||_, or-assoc, or-false, and-false, false≢true}
+use mathlib.Core.List.{List, [], _∷_, _++_, map}
+use native.Mathlib.Omega.{arith}
+use native.Mathlib.Decide.{ℕ-discrete}
+use lib.Dec.{eqb, ltb}
+use borrow.Author.Tests.{eqb-true, eqb-false, eq-eqb, ne-eqb, ltb-true, ltb-false, lt-ltb, le-ltb}
+use Rattle.model.specs.Lists.{Region, steps, every, rightPoint, wellFormed, sameList, among, risingLists, allLists}
+
+pub and-split : (a b : Bool) → (a && b) ≡ true → (a ≡ true) × (b ≡ true)
+and-split true b h = (refl, h)
+and-split false b h = absurd (false≢true h)
+
+and-or : (a b c : Bool) → (a && b || a && c) ≡ (a && (b || c))
+and-or true b c = refl
+and-or false b c = refl
+
+pub same-list : (ps qs : List ℕ) → sameList ps qs ≡ true → ps ≡ qs
+unfolding sameList
+same-list [] [] h = refl
+same-list [] (q ∷ qs) h = absurd (false≢true h)
+same-list (p ∷ ps) [] h = absurd (false≢true h)
+same-list (p ∷ ps) (q ∷ qs) h =
+    let both = and-split (eqb p q) (sameList ps qs) h in
+    ap₂ _∷_ (eqb-true p q (both .0)) (same-list ps qs (both .1))
+
+pub list-same : (ps : List ℕ) → sameList ps ps ≡ true
+unfolding sameList
+list-same [] = refl
+list-same (p ∷ ps) = simp (eq-eqb p p refl, list-same ps)
+
+among-append : (ps : List ℕ) (xs ys : List (List ℕ)) → among ps (xs ++ ys) ≡ (among ps xs || among ps ys)
+unfolding among
+among-append ps [] ys = refl
+among-append ps (x ∷ xs) ys = ap (λ (b : Bool). sameList ps x || b) (among-append ps xs ys) ∙ sym (or-assoc (sameList ps x) (among ps xs) (among ps ys))
+
+among-map : (p q : ℕ) (ps : List ℕ) (xs : List (List ℕ)) → among (p ∷ ps) (map (λ ps. q ∷ ps) xs) ≡ (eqb p q && among ps xs)
+unfolding among sameList
+among-map p q ps [] = sym (and-false (eqb p q))
+among-map p q ps (x ∷ xs) = ap (λ (b : Bool). eqb p q && sameList ps x || b) (among-map p q ps xs) ∙ and-or (eqb p q) (sameList ps x) (among ps xs)
+
+-- a point after a is the next number, or a point after that
+from-next : (n a p : ℕ) → suc a < n → (e f : Bool) → (p ≡ suc a → e ≡ f)
+    → (rightPoint n (suc a) p && e || eqb p (suc a) && f) ≡ (rightPoint n a p && e)
+from-next n a p h e f same = go (ℕ-discrete p (suc a))
+  where
+    above : (p ≡ suc a → ⊥) → (b : Bool) → ltb a p ≡ b → ltb (suc a) p ≡ b
+    above q true l = lt-ltb (suc a) p (omega (arith, ltb-true a p l))
+    above q false l = le-ltb (suc a) p (omega (arith, ltb-false a p l))
+
+    go : Dec (p ≡ suc a) → (rightPoint n (suc a) p && e || eqb p (suc a) && f) ≡ (rightPoint n a p && e)
+    go (yes q) = simp (le-ltb (suc a) p (omega arith), eq-eqb p (suc a) q, lt-ltb a p (omega arith), lt-ltb p n (omega arith)) (sym (same q))
+    go (no q) = simp (ne-eqb p (suc a) q, above q (ltb a p) refl) (or-false (ltb a p && ltb p n && e))
+
+rising : (n k a : ℕ) → n ≡ suc (a + k) → (ps : List ℕ) → among ps (risingLists a k) ≡ every (rightPoint n) (steps a ps)
+unfolding risingLists among sameList every steps
+rising n zero a e [] = refl
+rising n zero a e (p ∷ ps) = sym (none (ltb a p) refl)
+  where
+    none : (b : Bool) → ltb a p ≡ b → (ltb a p && ltb p n && every (rightPoint n) (steps p ps)) ≡ false
+    none true l = simp (l, le-ltb p n (omega (arith, ltb-true a p l)))
+    none false l = simp l
+rising n (suc k) a e [] = among-append [] (risingLists (suc a) k) _ ∙ simp (rising n k (suc a) (omega arith) [])
+rising n (suc k) a e (p ∷ ps) =
+    among-append (p ∷ ps) (risingLists (suc a) k) _ ∙
+    ap₂ _||_ (rising n k (suc a) (omega arith) (p ∷ ps))
+    (among-map p (suc a) ps (risingLists (suc a) k) ∙ ap (λ (b : Bool). eqb p (suc a) && b) (rising n k (suc a) (omega arith) ps)) ∙
+    from-next n a p (omega arith) (every (rightPoint n) (steps p ps)) (every (rightPoint n) (steps (suc a) ps))
+    (λ q. ap (λ (b : ℕ). every (rightPoint n) (steps b ps)) q)
+
+-- the enumeration of all lists has every well-formed list and no other
+pub enumerated : (n : ℕ) → 0 < n → (ps : List ℕ) → among ps (allLists n) ≡ wellFormed n ps
+enumerated n h ps = rising n (n - 1) 0 (omega arith) ps

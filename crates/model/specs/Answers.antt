@@ -1,0 +1,48 @@
+-- Refusals and what they are to the build (document 01, "Numbers given to the build"). Assumes nothing.
+use Prim.Native.Nat.{ℕ, _+_, _*_}
+use mathlib.Core.List.{List}
+use Rattle.model.specs.Task.{Task, blockCount}
+use Rattle.model.specs.Lists.{Place, nowhere, at, wrongPoint}
+use Rattle.model.specs.Regions.{regionAbove}
+use Rattle.model.specs.declared.Refusal.{Refusal}
+use Rattle.model.specs.declared.Refusal.the-variants.{Length, Checksum, Header, BlockCount, Block, NoPlacement, Argument, AboveLimit, Output}
+use Rattle.model.specs.declared.Verdict.{Verdict}
+use Rattle.model.specs.declared.Verdict.the-variants.{Accepted, Refused}
+
+-- the table's first column: the number
+abbrev pub number : Refusal → ℕ
+number Length = 1
+number (Checksum k) = 2
+number Header = 3
+number BlockCount = 4
+number (Block k) = 5
+number NoPlacement = 6
+number (Argument i) = 7
+number (AboveLimit i) = 8
+number Output = 9
+
+-- the place: the lowest such block, index or region, and 0 where the table says so
+abbrev pub place : Refusal → ℕ
+place Length = 0
+place (Checksum k) = k
+place Header = 0
+place BlockCount = 0
+place (Block k) = k
+place NoPlacement = 0
+place (Argument i) = i
+place (AboveLimit i) = i
+place Output = 0
+
+-- what a C call returns: 0, or the refusal's number times 65536 plus its place
+abbrev pub returned : Verdict → ℕ
+returned Accepted = 0
+returned (Refused r) = number r * 65536 + place r
+
+-- refused where there is a place, else as the later rows say
+abbrev pub refusedAt : Place → (ℕ → Refusal) → Verdict → Verdict
+refusedAt nowhere r later = later
+refusedAt (at i) r later = Refused (r i)
+
+-- pricing a list: 7 at the lowest wrong point, then 8 at the lowest region above the limit
+abbrev pub pricing : Task → List ℕ → Verdict
+pricing t ps = refusedAt (wrongPoint (blockCount t) ps) Argument (refusedAt (regionAbove t ps) AboveLimit Accepted)

@@ -1,0 +1,118 @@
+-- Document 01's cases marked P, and document 004's appendix A. A case is a claim on a task; a claim about lists is one about every list.
+-- Assumes nothing.
+use Prim.Native.Nat.{ℕ, _<_}
+use mathlib.Core.Path.{_≡_}
+use mathlib.Core.Bool.{Bool, true, false, _&&_, _||_}
+use mathlib.Core.List.{List, [], _∷_}
+use lib.Dec.{eqb}
+use Rattle.model.specs.Sets.{Lines}
+use Rattle.model.specs.Task.{Block, Preempter, Task, blockCount}
+use Rattle.model.specs.Lines.{onLine, useful, accessedUseful}
+use Rattle.model.specs.Lists.{wellFormed, among}
+use Rattle.model.specs.Regions.{loaded, regionLength, lines, cost, fits, BestList, NoPlacementFits}
+use Rattle.model.specs.Answers.{pricing, number, place}
+use Rattle.model.specs.declared.Refusal.{Refusal}
+use Rattle.model.specs.declared.Verdict.the-variants.{Accepted, Refused}
+
+pub data Case : Type 0 where
+  usefulAre : Task → ℕ → List ℕ → Case  -- U(k) is these lines
+  accessedUsefulAre : Task → ℕ → List ℕ → Case  -- A(k) is these lines
+  loadedAre : Task → ℕ → ℕ → List ℕ → Case  -- loaded(a, b) is these lines
+  lengthIs : Task → ℕ → ℕ → ℕ → Case  -- the length of region (a, b)
+  bestAre : Task → ℕ → List (List ℕ) → Case  -- the least cost, and all the lists that reach it
+  fittingAre : Task → List (List ℕ) → Case  -- all the lists that fit
+  noneFits : Task → Case  -- refusal 6
+  priced : Task → List ℕ → ℕ → ℕ → Case  -- a list's lines and cost
+  refused : Task → List ℕ → ℕ → ℕ → Case  -- pricing refuses the list by this number at this place
+  lineIs : Task → ℕ → ℕ → Case  -- the line of a number
+
+unfoldable pub listed : List ℕ → Lines
+listed [] c = false
+listed (d ∷ ds) c = eqb d c || listed ds c
+
+-- the set is just these lines
+abbrev pub Are : Lines → List ℕ → Type 0
+Are s ds = (c : ℕ) → c < 512 → s c ≡ listed ds c
+
+abbrev pub Holds : Case → Type 0
+Holds (usefulAre t k ds) = Are (useful t k) ds
+Holds (accessedUsefulAre t k ds) = Are (accessedUseful t k) ds
+Holds (loadedAre t a b ds) = Are (loaded t a b) ds
+Holds (lengthIs t a b l) = regionLength t a b ≡ l
+Holds (bestAre t p pss) =
+    ((ps : List ℕ) → among ps pss ≡ true → BestList t ps × (cost t ps ≡ p)) × ((ps : List ℕ) → BestList t ps → among ps pss ≡ true)
+Holds (fittingAre t pss) = (ps : List ℕ) → (wellFormed (blockCount t) ps && fits t ps) ≡ among ps pss
+Holds (noneFits t) = NoPlacementFits t
+Holds (priced t ps l p) = (pricing t ps ≡ Accepted) × (lines t ps ≡ l) × (cost t ps ≡ p)
+Holds (refused t ps n i) = (r : Refusal) × (pricing t ps ≡ Refused r) × (number r ≡ n) × (place r ≡ i)
+Holds (lineIs t m c) = (d : ℕ) → onLine t d m ≡ eqb c d
+
+abbrev pub block : ℕ → List ℕ → Block
+block time reads = record { time = time; reads = reads }
+
+abbrev pub preempter : List ℕ → Preempter
+preempter reads = record { id = 0; reads = reads }
+
+-- File Seven, with S lines and the limit Q
+abbrev pub fileSeven : ℕ → ℕ → Task
+fileSeven s q =
+    record {
+      id = 7;
+      lineCount = s;
+      limit = q;
+      reload = 10;
+      blocks = block 20 (0 ∷ 1 ∷ []) ∷ block 20 (2 ∷ []) ∷ block 20 (0 ∷ []) ∷ block 20 (5 ∷ 0 ∷ []) ∷ [];
+      preempters = preempter (4 ∷ 1 ∷ []) ∷ [];
+    }
+
+-- one basic block of 60 ticks
+abbrev pub oneBlock : ℕ → Task
+oneBlock q = record { id = 7; lineCount = 4; limit = q; reload = 10; blocks = block 60 [] ∷ []; preempters = [] }
+
+-- appendix A's task 1, its last block run once more, preempted by the five blocks of task 2
+abbrev pub appendixA : Task
+appendixA =
+    record {
+      id = 1;
+      lineCount = 16;
+      limit = 0;
+      reload = 390;
+      blocks =
+          block 0 (1 ∷ 2 ∷ []) ∷ block 0 (3 ∷ 4 ∷ 8 ∷ []) ∷ block 0 (4 ∷ 5 ∷ 6 ∷ 8 ∷ []) ∷ block 0 (1 ∷ 2 ∷ 7 ∷ 8 ∷ []) ∷
+          block 0 (1 ∷ 2 ∷ 7 ∷ 8 ∷ []) ∷ block 0 (1 ∷ 2 ∷ 7 ∷ 8 ∷ []) ∷ [];
+      preempters =
+          preempter (1 ∷ 9 ∷ []) ∷ preempter (3 ∷ 10 ∷ []) ∷ preempter (11 ∷ 12 ∷ []) ∷ preempter (5 ∷ 7 ∷ 13 ∷ []) ∷
+          preempter (1 ∷ 3 ∷ 7 ∷ 8 ∷ []) ∷ [];
+    }
+
+abbrev pub cases : List Case
+cases =
+    -- U(1), U(2), U(3) are {0}; U(4) is empty
+    usefulAre (fileSeven 4 60) 1 (0 ∷ []) ∷ usefulAre (fileSeven 4 60) 2 (0 ∷ []) ∷ usefulAre (fileSeven 4 60) 3 (0 ∷ []) ∷
+    usefulAre (fileSeven 4 60) 4 [] ∷
+    -- loaded(1, 3) is {0}; loaded(1, 2) and loaded(3, 4) are empty
+    loadedAre (fileSeven 4 60) 1 3 (0 ∷ []) ∷ loadedAre (fileSeven 4 60) 1 2 [] ∷ loadedAre (fileSeven 4 60) 3 4 [] ∷
+    -- Q 60: least cost 0, only with point 3
+    bestAre (fileSeven 4 60) 0 ((3 ∷ []) ∷ []) ∷
+    -- Q 40: least cost 10; 1, 2, 3 and 2, 3 reach it
+    bestAre (fileSeven 4 40) 10 ((1 ∷ 2 ∷ 3 ∷ []) ∷ (2 ∷ 3 ∷ []) ∷ []) ∷
+    -- Q 30: only 1, 2, 3 fits; cost 10, lines 1
+    fittingAre (fileSeven 4 30) ((1 ∷ 2 ∷ 3 ∷ []) ∷ []) ∷ priced (fileSeven 4 30) (1 ∷ 2 ∷ 3 ∷ []) 1 10 ∷
+    -- Q 29: refusal 6, though every time is 20
+    noneFits (fileSeven 4 29) ∷
+    -- Q 60, list 1: refusal 8, region 1, whose length is 70
+    refused (fileSeven 4 60) (1 ∷ []) 8 1 ∷ lengthIs (fileSeven 4 60) 1 4 70 ∷
+    -- list 2, 2: refusal 7, place 1
+    refused (fileSeven 4 60) (2 ∷ 2 ∷ []) 7 1 ∷
+    -- one basic block of 60: no points at Q 60, refusal 6 at Q 59
+    bestAre (oneBlock 60) 0 ([] ∷ []) ∷ noneFits (oneBlock 59) ∷
+    -- S 512: number 300 is line 300, 512 is line 0
+    lineIs (fileSeven 512 60) 300 300 ∷ lineIs (fileSeven 512 60) 512 0 ∷
+    -- 004, figure 9: the useful lines of task 1
+    usefulAre appendixA 1 (1 ∷ 2 ∷ []) ∷ usefulAre appendixA 2 (1 ∷ 2 ∷ 4 ∷ 8 ∷ []) ∷ usefulAre appendixA 3 (1 ∷ 2 ∷ 8 ∷ []) ∷
+    usefulAre appendixA 4 (1 ∷ 2 ∷ 7 ∷ 8 ∷ []) ∷ usefulAre appendixA 5 (1 ∷ 2 ∷ 7 ∷ 8 ∷ []) ∷
+    -- 004, figure 10: the accessed useful lines of task 1
+    accessedUsefulAre appendixA 1 (1 ∷ 2 ∷ []) ∷ accessedUsefulAre appendixA 2 (4 ∷ 8 ∷ []) ∷ accessedUsefulAre appendixA 3 (8 ∷ []) ∷
+    accessedUsefulAre appendixA 4 (1 ∷ 2 ∷ 7 ∷ 8 ∷ []) ∷ accessedUsefulAre appendixA 5 (1 ∷ 2 ∷ 7 ∷ 8 ∷ []) ∷
+    -- 004, appendix A: the loaded lines of regions (2, 4) and (4, 5)
+    loadedAre appendixA 2 4 (1 ∷ 8 ∷ []) ∷ loadedAre appendixA 4 5 (1 ∷ 7 ∷ 8 ∷ []) ∷ []

@@ -1,0 +1,7 @@
+pub mod Sets
+pub mod Task
+pub mod Lines
+pub mod Lists
+pub mod Regions
+pub mod Answers
+pub mod Cases

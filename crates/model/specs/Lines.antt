@@ -1,0 +1,80 @@
+-- The lines of a task (document 01, "Lines"; 003's reaching and live states on a straight line; 004, equation 7).
+-- Assumes nothing.
+use Prim.Native.Nat.{ℕ, zero, suc, _%_}
+use mathlib.Core.Bool.{Bool, true, false, cond, _&&_, _||_}
+use mathlib.Core.List.{List, [], _∷_, _++_}
+use lib.Dec.{eqb}
+use lib.ListN.{getD, take, drop}
+use Rattle.model.specs.Sets.{Lines}
+use Rattle.model.specs.Task.{Block, Preempter, Task}
+use Rattle.model.specs.declared.Line.{Line}
+use Rattle.model.specs.declared.Line.the-variants.{Empty, Held}
+
+-- the line of memory block m: the one place where a number becomes a line
+unfoldable pub lineOf : Task → ℕ → ℕ
+lineOf t m = m % t .lineCount
+
+-- memory block m lies on line c
+unfoldable pub onLine : Task → ℕ → ℕ → Bool
+onLine t c m = eqb (lineOf t m) c
+
+-- the state of a line that was l, after these reads; on tells which numbers lie on it
+unfoldable pub lastRead : (ℕ → Bool) → Line → List ℕ → Line
+lastRead on l [] = l
+lastRead on l (m ∷ ms) = lastRead on (cond (on m) (Held m) l) ms
+
+-- the next read of a line: the first of these numbers that lies on it
+unfoldable pub firstRead : (ℕ → Bool) → List ℕ → Line
+firstRead on [] = Empty
+firstRead on (m ∷ ms) = cond (on m) (Held m) (firstRead on ms)
+
+-- one of these numbers lies on the line
+unfoldable pub anyRead : (ℕ → Bool) → List ℕ → Bool
+anyRead on [] = false
+anyRead on (m ∷ ms) = on m || anyRead on ms
+
+-- two states hold the same memory block; an empty line holds none
+abbrev pub sameBlock : Line → Line → Bool
+sameBlock Empty Empty = false
+sameBlock Empty (Held n) = false
+sameBlock (Held m) Empty = false
+sameBlock (Held m) (Held n) = eqb m n
+
+-- the reads of a run of basic blocks, in order
+unfoldable pub readsOf : List Block → List ℕ
+readsOf [] = []
+readsOf (b ∷ bs) = b .reads ++ readsOf bs
+
+-- the reads of the preempters
+unfoldable pub preempterReads : List Preempter → List ℕ
+preempterReads [] = []
+preempterReads (p ∷ ps) = p .reads ++ preempterReads ps
+
+-- basic block i + 1
+unfoldable pub blockAt : Task → ℕ → Block
+blockAt t i = getD (t .blocks) i (record { time = 0; reads = [] })
+
+-- what line c holds after basic blocks 1 to k
+unfoldable pub stateAfter : Task → ℕ → ℕ → Line
+stateAfter t k c = lastRead (onLine t c) Empty (readsOf (take k (t .blocks)))
+
+-- the first number read on line c in basic blocks k + 1 to N
+unfoldable pub nextRead : Task → ℕ → ℕ → Line
+nextRead t k c = firstRead (onLine t c) (readsOf (drop k (t .blocks)))
+
+-- U(k), the useful lines at edge k: they hold some m, and m is read next
+unfoldable pub useful : Task → ℕ → Lines
+useful t k c = sameBlock (stateAfter t k c) (nextRead t k c)
+
+-- T(k), the lines that basic block k reads; k is at least 1
+unfoldable pub accessed : Task → ℕ → Lines
+accessed t zero c = false
+accessed t (suc i) c = anyRead (onLine t c) (blockAt t i .reads)
+
+-- A(k), the accessed useful lines: U(k) and T(k) in common
+unfoldable pub accessedUseful : Task → ℕ → Lines
+accessedUseful t k c = useful t k c && accessed t k c
+
+-- H, the lines that the preempters evict
+unfoldable pub evicted : Task → Lines
+evicted t c = anyRead (onLine t c) (preempterReads (t .preempters))

@@ -1,0 +1,62 @@
+-- Regions of a task (document 01, "Stretches and price"; 004, equation 8). Assumes nothing.
+use Prim.Native.Nat.{ℕ, zero, suc, _+_, _-_, _*_}
+use mathlib.Core.Bool.{Bool, false, _&&_, _||_}
+use mathlib.Core.List.{List}
+use lib.Dec.{leb}
+use Rattle.model.specs.Sets.{Lines, size}
+use Rattle.model.specs.Task.{Task, blockCount}
+use Rattle.model.specs.Lines.{useful, accessedUseful, evicted, blockAt}
+use Rattle.model.specs.Lists.{Place, regions, total, lowest, wellFormed, listFits, listCost, LeastCost, NoneFits}
+
+-- the union of s(a + 1) to s(a + n)
+unfoldable pub unionAfter : (ℕ → Lines) → ℕ → ℕ → Lines
+unionAfter s a zero c = false
+unionAfter s a (suc n) c = unionAfter s a n c || s (a + suc n) c
+
+-- the sum of the times of the n basic blocks after edge a
+unfoldable pub timeAfter : Task → ℕ → ℕ → ℕ
+timeAfter t a zero = 0
+timeAfter t a (suc n) = timeAfter t a n + blockAt t (a + n) .time
+
+-- loaded(a, b), equation 8: useful at a, evicted, and accessed while useful in the region
+unfoldable pub loaded : Task → ℕ → ℕ → Lines
+loaded t a b c = useful t a c && evicted t c && unionAfter (accessedUseful t) a (b - a) c
+
+-- the lines that a region reloads
+unfoldable pub regionLines : Task → ℕ → ℕ → ℕ
+regionLines t a b = size (loaded t a b)
+
+-- the length of a region: its times, and one reload for each loaded line
+unfoldable pub regionLength : Task → ℕ → ℕ → ℕ
+regionLength t a b = timeAfter t a (b - a) + t .reload * regionLines t a b
+
+-- a region is within the limit
+unfoldable pub regionFits : Task → ℕ → ℕ → Bool
+regionFits t a b = leb (regionLength t a b) (t .limit)
+
+-- what a region costs (document 01's price): R for each loaded line
+unfoldable pub regionCost : Task → ℕ → ℕ → ℕ
+regionCost t a b = t .reload * regionLines t a b
+
+-- a list's lines: a line that two regions reload counts twice
+abbrev pub lines : Task → List ℕ → ℕ
+lines t ps = total (regionLines t) (regions (blockCount t) 0 ps)
+
+-- a list's cost; it is R times its lines (the law cost-of-lines)
+abbrev pub cost : Task → List ℕ → ℕ
+cost t ps = listCost (regionCost t) (blockCount t) ps
+
+abbrev pub fits : Task → List ℕ → Bool
+fits t ps = listFits (regionFits t) (blockCount t) ps
+
+-- the lowest region above the limit
+abbrev pub regionAbove : Task → List ℕ → Place
+regionAbove t ps = lowest (regionFits t) 0 (regions (blockCount t) 0 ps)
+
+-- demand 3 for a task: this list is well formed, fits, and costs least among the fitting
+abbrev pub BestList : Task → List ℕ → Type 0
+BestList t ps = LeastCost (blockCount t) (regionFits t) (regionCost t) ps
+
+-- refusal 6 for a task
+abbrev pub NoPlacementFits : Task → Type 0
+NoPlacementFits t = NoneFits (blockCount t) (regionFits t)

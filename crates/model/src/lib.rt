@@ -1,0 +1,36 @@
+// The types that the planner's answers are made of. What they mean is in specs/.
+
+// One line of the cache: it is empty or holds one memory block.
+pub enum Line {
+    Empty,
+    Held(u32),
+}
+
+// Why a call refuses, with the place that the refusal names.
+pub enum Refusal {
+    Length,
+    Checksum(usize),
+    Header,
+    BlockCount,
+    Block(usize),
+    NoPlacement,
+    Argument(usize),
+    AboveLimit(usize),
+    Output,
+}
+
+// What a call answers where it has no value to give beside it.
+pub enum Verdict {
+    Accepted,
+    Refused(Refusal),
+}
+
+// A plan, each field as wide as in a plan block; the points beyond the count are zero.
+pub struct Plan {
+    pub blocks: u16,
+    pub id: u32,
+    pub count: u16,
+    pub lines: u16,
+    pub cost: u64,
+    pub points: [u16; 64],
+}

@@ -15,7 +15,7 @@ use Rattle.model.specs.Task.{Task, blockCount}
 use Rattle.model.specs.Lines.{lineOf, onLine, lastRead, firstRead, anyRead, readsOf, preempterReads, blockAt, stateAfter, nextRead, useful, accessed, accessedUseful, evicted}
 use Rattle.model.specs.Lists.{steps, regions, every, total, lowest, wellFormed, among, sameList, risingLists, allLists}
 use Rattle.model.specs.Regions.{unionAfter, timeAfter, loaded, regionLines, regionLength, regionFits, regionCost, lines, cost, fits, BestList}
-use Rattle.model.specs.Answers.{pricing, number, place}
+use Rattle.model.specs.Answers.{accepted, pricing, number, place}
 use Rattle.model.specs.Cases.{Case, usefulAre, accessedUsefulAre, loadedAre, lengthIs, bestAre, fittingAre, noneFits, priced, refused, lineIs, listed, Are, Holds, cases}
 use Rattle.model.specs.declared.Refusal.{Refusal}
 use Rattle.model.specs.declared.Verdict.{Verdict}
@@ -43,10 +43,6 @@ exactly t q pss = everyList (wellFormed (blockCount t)) pss && onAll t (λ ps. B
 some : List (List ℕ) → Bool
 some [] = false
 some (ps ∷ pss) = true
-
-accepted : Verdict → Bool
-accepted Accepted = true
-accepted (Refused r) = false
 
 refusedBy : ℕ → ℕ → Verdict → Bool
 refusedBy n i Accepted = false
@@ -145,7 +141,6 @@ module _ (t : Task) (p : ℕ) (pss : List (List ℕ)) (e : everyList (λ ps. eqb
   )
 
 is-accepted : (v : Verdict) → accepted v ≡ true → v ≡ Accepted
-unfolding accepted
 is-accepted Accepted h = refl
 is-accepted (Refused r) h = absurd (false≢true h)
 
@@ -176,7 +171,7 @@ sound (refused t ps n i) h = is-refused n i (pricing t ps) h
 sound (lineIs t m c) h = λ d. ap (λ (x : ℕ). eqb x d) (eqb-true (lineOf t m) c h)
 
 all-pass : everyCase cases ≡ true
-unfolding everyCase test agreeBelow everyList onAll exactly some accepted refusedBy listed useful stateAfter nextRead lastRead firstRead readsOf lineOf onLine accessed anyRead blockAt accessedUseful evicted preempterReads loaded unionAfter regionLines countBelow regionLength timeAfter regionFits regionCost every total lowest regions steps among sameList risingLists
+unfolding everyCase test agreeBelow everyList onAll exactly some refusedBy listed useful stateAfter nextRead lastRead firstRead readsOf lineOf onLine accessed anyRead blockAt accessedUseful evicted preempterReads loaded unionAfter regionLines countBelow regionLength timeAfter regionFits regionCost every total lowest regions steps among sameList risingLists
 all-pass = refl
 
 held : (cs : List Case) → everyCase cs ≡ true → (c : Case) → List·Memᴰ c cs → Holds c

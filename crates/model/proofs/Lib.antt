@@ -1,3 +1,6 @@
+pub mod Digits
+pub mod Sets
+pub mod LineStates
 pub mod Lists
 pub mod Regions
 pub mod Cases

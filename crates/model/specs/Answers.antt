@@ -1,5 +1,6 @@
 -- Refusals and what they are to the build (document 01, "Numbers given to the build"). Assumes nothing.
 use Prim.Native.Nat.{ℕ, _+_, _*_}
+use mathlib.Core.Bool.{Bool, true, false}
 use mathlib.Core.List.{List}
 use Rattle.model.specs.Task.{Task, blockCount}
 use Rattle.model.specs.Lists.{Place, nowhere, at, wrongPoint}
@@ -37,6 +38,15 @@ place Output = 0
 abbrev pub returned : Verdict → ℕ
 returned Accepted = 0
 returned (Refused r) = number r * 65536 + place r
+
+abbrev pub accepted : Verdict → Bool
+accepted Accepted = true
+accepted (Refused r) = false
+
+-- a value for an accepted input, and another for a refused one
+abbrev pub onAccepted : {A : Type 0} → Verdict → A → A → A
+onAccepted Accepted a b = a
+onAccepted (Refused r) a b = b
 
 -- refused where there is a place, else as the later rows say
 abbrev pub refusedAt : Place → (ℕ → Refusal) → Verdict → Verdict

@@ -22,6 +22,10 @@ countBelow (suc n) s = countBelow n s + bit (s n)
 abbrev pub size : Lines → ℕ
 size s = countBelow 512 s
 
+-- digit j of a number, as a bit
+abbrev pub digit : ℕ → ℕ → Bool
+digit a j = eqb (a / 2 ^ j % 2) 1
+
 -- the number whose digit j, of n digits, is 1 where j is in the set
 unfoldable pub digitsBelow : ℕ → Lines → ℕ
 digitsBelow zero s = 0
@@ -37,4 +41,4 @@ words s = word s 0 ∷ word s 1 ∷ word s 2 ∷ word s 3 ∷ word s 4 ∷ word 
 
 -- the set that a list of words holds
 unfoldable pub inWords : List ℕ → Lines
-inWords ws c = eqb (getD ws (c / 64) 0 / 2 ^ (c % 64) % 2) 1
+inWords ws c = digit (getD ws (c / 64) 0) (c % 64)

@@ -1,0 +1,30 @@
+-- Blocks of 512 bytes, of any kind (document 01, "Blocks of 512 bytes").
+-- Assumes nothing.
+use Prim.Native.Nat.{ℕ, zero, suc, _-_}
+use mathlib.Core.Bool.{Bool, cond}
+use mathlib.Core.List.{List, _++_}
+use lib.ListN.{length, take, replicate}
+use Rattle.model.specs.Lists.{Place, nowhere, at, sameList}
+use Rattle.fnv.specs.Fnv.{fnv1a}
+use Rattle.block.specs.Bytes.{le}
+
+-- bytes 0 to 507: the named bytes, zeros to byte 503, and the block's number in the file
+unfoldable pub numbered : ℕ → List ℕ → List ℕ
+numbered k named = named ++ replicate (504 - length named) 0 ++ le 4 k
+
+-- 508 bytes and their checksum (the document's check)
+unfoldable pub sealed : List ℕ → List ℕ
+sealed bs = bs ++ le 4 (fnv1a bs)
+
+-- a block's checksum is right
+unfoldable pub checksumRight : List ℕ → Bool
+checksumRight bs = sameList bs (sealed (take 508 bs))
+
+-- bytes 0 to 507 are those of block k with these named bytes: no byte without a named use is other than zero
+unfoldable pub bodyRight : ℕ → List ℕ → List ℕ → Bool
+bodyRight k named bs = sameList (take 508 bs) (numbered k named)
+
+-- the lowest k, of the n from a, at which f does not hold
+unfoldable pub lowestFrom : (ℕ → Bool) → ℕ → ℕ → Place
+lowestFrom f a zero = nowhere
+lowestFrom f a (suc n) = cond (f a) (lowestFrom f (suc a) n) (at a)

@@ -1,0 +1,162 @@
+-- The binary digits of a number, as a set. A number is taken apart into its lowest digit and its half, so each law is an induction on the width.
+-- Assumes nothing.
+use mathlib.Core.Bool.{Bool, true, false, _&&_, _||_}
+use mathlib.Core.Path.{_≡_, refl, sym, ap, ap₂, _∙_, fun-ext}
+use Prim.Native.Nat.{ℕ, zero, suc, _+_, _*_, _/_, _%_, _^_, _≤_, _<_, zero-le}
+use native.Mathlib.Nat.{le-refl, le-of-suc-le-suc, not-suc-le-zero, zero-lt-suc, add-zero, add-suc, add-assoc, one-mul, mul-assoc, pow-suc}
+use native.Mathlib.Nat.{zero-div, div-one, mod-lt, mul-div-cancel, mul-mod-left, div-add-mod'}
+use native.Mathlib.Numerals.{one-add}
+use native.Mathlib.Omega.{arith}
+use lib.Arith.{lt-one}
+use lib.Bits.{bitAnd, bitOr, and-shr, and-mod, or-shr, or-mod}
+use lib.Count.{ones, ones-step}
+use lib.Dec.{eqb, lit<, eqb·suc-suc, eqb·suc-zero, eqb·zero-suc}
+use lib.Pow.{shl-exact, shr-shr}
+use Rattle.model.specs.Sets.{Lines, bit, digit, countBelow, digitsBelow}
+
+bit-eqb : {n : ℕ} → n < 2 → bit (eqb n 1) ≡ n
+bit-eqb {n = zero} h = refl
+bit-eqb {n = suc zero} h = refl
+bit-eqb {n = suc (suc n)} h = absurd (omega arith)
+
+bit-le : (b : Bool) → bit b ≤ 1
+bit-le true = le-refl 1
+bit-le false = zero-le
+
+eqb-bit : (b : Bool) → eqb (bit b) 1 ≡ b
+eqb-bit true = refl
+eqb-bit false = refl
+
+mod-two : (a : ℕ) → a % 2 < 2
+mod-two a = mod-lt a (zero-lt-suc 1)
+
+digit-zero : (a : ℕ) → bit (digit a 0) ≡ a % 2
+digit-zero a = ap (λ (x : ℕ). bit (eqb (x % 2) 1)) (div-one a) ∙ bit-eqb (mod-two a)
+
+digit-suc : (a j : ℕ) → digit a (suc j) ≡ digit (a / 2) j
+digit-suc a j = rw (← one-add j, ← shr-shr a 1 j)
+
+-- ---- digits of an or, of an and, of a power
+
+module _ (op : ℕ → ℕ → ℕ) (f : Bool → Bool → Bool)
+    (high : (a b k : ℕ) → op a b / 2 ^ k ≡ op (a / 2 ^ k) (b / 2 ^ k))
+    (low : (a b k : ℕ) → op a b % 2 ^ k ≡ op (a % 2 ^ k) (b % 2 ^ k))
+    (each : (u v : ℕ) → u < 2 → v < 2 → eqb (op u v) 1 ≡ f (eqb u 1) (eqb v 1)) where
+  digit-op : (a b j : ℕ) → digit (op a b) j ≡ f (digit a j) (digit b j)
+  digit-op a b j =
+      ap (λ (x : ℕ). eqb (x % 2) 1) (high a b j)
+      ∙ ap (λ (x : ℕ). eqb x 1) (low (a / 2 ^ j) (b / 2 ^ j) 1)
+      ∙ each (a / 2 ^ j % 2) (b / 2 ^ j % 2) (mod-two (a / 2 ^ j)) (mod-two (b / 2 ^ j))
+
+or-each : (u v : ℕ) → u < 2 → v < 2 → eqb (bitOr u v) 1 ≡ (eqb u 1 || eqb v 1)
+or-each zero v hu hv = refl
+or-each (suc zero) zero hu hv = refl
+or-each (suc zero) (suc zero) hu hv = refl
+or-each (suc zero) (suc (suc v)) hu hv = absurd (omega arith)
+or-each (suc (suc u)) v hu hv = absurd (omega arith)
+
+and-each : (u v : ℕ) → u < 2 → v < 2 → eqb (bitAnd u v) 1 ≡ (eqb u 1 && eqb v 1)
+and-each zero v hu hv = refl
+and-each (suc zero) zero hu hv = refl
+and-each (suc zero) (suc zero) hu hv = refl
+and-each (suc zero) (suc (suc v)) hu hv = absurd (omega arith)
+and-each (suc (suc u)) v hu hv = absurd (omega arith)
+
+pub digit-or : (a b j : ℕ) → digit (bitOr a b) j ≡ (digit a j || digit b j)
+digit-or = digit-op bitOr _||_ or-shr or-mod or-each
+
+pub digit-and : (a b j : ℕ) → digit (bitAnd a b) j ≡ (digit a j && digit b j)
+digit-and = digit-op bitAnd _&&_ and-shr and-mod and-each
+
+pub digit-of-zero : (j : ℕ) → digit 0 j ≡ false
+digit-of-zero j = ap (λ (x : ℕ). eqb (x % 2) 1) (zero-div (2 ^ j))
+
+digit-pow : (k j : ℕ) → digit (2 ^ k) j ≡ eqb j k
+digit-pow zero zero = refl
+digit-pow zero (suc j) = digit-suc 1 j ∙ digit-of-zero j ∙ sym (eqb·suc-zero j)
+digit-pow (suc k) zero = rw (div-one, pow-suc, mul-mod-left) (sym (eqb·zero-suc k))
+digit-pow (suc k) (suc j) =
+    digit-suc (2 ^ suc k) j
+    ∙ ap (λ (x : ℕ). digit x j) (ap (λ (x : ℕ). x / 2) (pow-suc 2 k) ∙ mul-div-cancel (2 ^ k) (zero-lt-suc 1))
+    ∙ digit-pow k j
+    ∙ sym (eqb·suc-suc j k)
+
+-- 1 shifted left by k within a width
+pub digit-shl : (width k j : ℕ) → k < width → digit (1 * 2 ^ k % 2 ^ width) j ≡ eqb j k
+digit-shl width k j h = rw (shl-exact 1 k width (lit< tt) (omega arith), one-mul) (digit-pow k j)
+
+-- ---- counts
+
+pub count-agree : (n : ℕ) {s t : Lines} → ((c : ℕ) → c < n → s c ≡ t c) → countBelow n s ≡ countBelow n t
+unfolding countBelow
+count-agree zero h = refl
+count-agree (suc n) h =
+    ap₂ (λ (x : ℕ) (b : Bool). x + bit b) (count-agree n (λ c l. h c (omega arith))) (h n (le-refl (suc n)))
+
+pub count-add : (n m : ℕ) (s : Lines) → countBelow (n + m) s ≡ countBelow n s + countBelow m (λ j. s (n + j))
+unfolding countBelow
+count-add n zero s = simp add-zero
+count-add n (suc m) s = rw (add-suc, count-add n m s) (add-assoc _ _ _)
+
+count-first : (n : ℕ) (s : Lines) → countBelow (suc n) s ≡ bit (s 0) + countBelow n (λ j. s (suc j))
+unfolding countBelow
+count-first zero s = omega arith
+count-first (suc n) s = rw (count-first n s) (add-assoc _ _ _)
+
+half-lt : (n : ℕ) {a : ℕ} → a < 2 ^ suc n → a / 2 < 2 ^ n
+half-lt n h = omega (arith, pow-suc 2 n)
+
+-- the count of ones of a number of n digits
+pub count-ones : (n a : ℕ) → a < 2 ^ n → ones a ≡ countBelow n (digit a)
+unfolding countBelow ones
+count-ones zero a h = ap ones (lt-one h)
+count-ones (suc n) a h =
+    ones-step a
+    ∙ ap₂ (λ (x y : ℕ). x + y) (sym (digit-zero a))
+    (count-ones n (a / 2) (half-lt n h) ∙ ap (countBelow n) (fun-ext (λ j. sym (digit-suc a j))))
+    ∙ sym (count-first n (digit a))
+
+pub count-le : (n : ℕ) (s : Lines) → countBelow n s ≤ n
+unfolding countBelow
+count-le zero s = zero-le
+count-le (suc n) s = omega (arith, count-le n s, bit-le (s n))
+
+-- ---- numbers from digits
+
+pub digits-agree : (n : ℕ) {s t : Lines} → ((c : ℕ) → c < n → s c ≡ t c) → digitsBelow n s ≡ digitsBelow n t
+unfolding digitsBelow
+digits-agree zero h = refl
+digits-agree (suc n) h =
+    ap₂ (λ (x : ℕ) (b : Bool). x + bit b * 2 ^ n) (digits-agree n (λ c l. h c (omega arith))) (h n (le-refl (suc n)))
+
+digits-first : (n : ℕ) (s : Lines) → digitsBelow (suc n) s ≡ digitsBelow n (λ j. s (suc j)) * 2 + bit (s 0)
+unfolding digitsBelow
+digits-first zero s = omega arith
+digits-first (suc n) s = rw (digits-first n s, pow-suc) (omega (arith, mul-assoc (bit (s (suc n))) (2 ^ n) 2))
+
+pub digits-lt : (n : ℕ) (s : Lines) → digitsBelow n s < 2 ^ n
+unfolding digitsBelow
+digits-lt zero s = lit< tt
+digits-lt (suc n) s = omega (arith, digits-first n s, digits-lt n (λ j. s (suc j)), bit-le (s 0), pow-suc 2 n)
+
+-- digit j of the number is the set's line j
+pub digit-digits : (n : ℕ) (s : Lines) (j : ℕ) → j < n → digit (digitsBelow n s) j ≡ s j
+digit-digits zero s j h = absurd (not-suc-le-zero h)
+digit-digits (suc n) s zero h =
+    let e : digitsBelow (suc n) s / 1 % 2 ≡ bit (s 0) = omega (arith, digits-first n s, bit-le (s 0)) in
+    ap (λ (x : ℕ). eqb x 1) e ∙ eqb-bit (s 0)
+digit-digits (suc n) s (suc j) h =
+    digit-suc (digitsBelow (suc n) s) j
+    ∙ ap (λ (x : ℕ). digit x j) (omega (arith, digits-first n s, bit-le (s 0)))
+    ∙ digit-digits n (λ i. s (suc i)) j (le-of-suc-le-suc h)
+
+-- a number of n digits is made of its digits
+pub digits-digit : (n a : ℕ) → a < 2 ^ n → digitsBelow n (digit a) ≡ a
+unfolding digitsBelow
+digits-digit zero a h = sym (lt-one h)
+digits-digit (suc n) a h =
+    digits-first n (digit a)
+    ∙ ap₂ (λ (x y : ℕ). x * 2 + y)
+    (ap (digitsBelow n) (fun-ext (digit-suc a)) ∙ digits-digit n (a / 2) (half-lt n h))
+    (digit-zero a)
+    ∙ div-add-mod' a 2

@@ -1,0 +1,57 @@
+-- Laws of a line's state and its next read over a list of reads that grows at its end.
+-- Assumes nothing.
+use Prim.Native.Nat.{ℕ}
+use mathlib.Core.Path.{_≡_, refl, sym, ap, _∙_}
+use mathlib.Core.Bool.{Bool, true, false, cond, _||_, or-assoc, false≢true, true≢false}
+use mathlib.Core.List.{List, [], _∷_, _++_}
+use Rattle.model.specs.Lines.{lastRead, firstRead, anyRead}
+use Rattle.model.specs.declared.Line.{Line}
+use Rattle.model.specs.declared.Line.the-variants.{Empty, Held}
+
+neither : (a b : Bool) → (a || b) ≡ false → (a ≡ false) × (b ≡ false)
+neither true b h = absurd (true≢false h)
+neither false b h = (refl, h)
+
+module _ (on : ℕ → Bool) where
+  pub last-append : (l : Line) (xs ys : List ℕ) → lastRead on l (xs ++ ys) ≡ lastRead on (lastRead on l xs) ys
+  unfolding lastRead
+  last-append l [] ys = refl
+  last-append l (x ∷ xs) ys = last-append (cond (on x) (Held x) l) xs ys
+
+  pub any-append : (xs ys : List ℕ) → anyRead on (xs ++ ys) ≡ (anyRead on xs || anyRead on ys)
+  unfolding anyRead
+  any-append [] ys = refl
+  any-append (x ∷ xs) ys = ap (λ (b : Bool). on x || b) (any-append xs ys) ∙ sym (or-assoc (on x) (anyRead on xs) (anyRead on ys))
+
+  -- no read lies on the line: its state stays, and the next read is a later one
+  pub last-unread : (l : Line) (xs : List ℕ) → anyRead on xs ≡ false → lastRead on l xs ≡ l
+  unfolding lastRead anyRead
+  last-unread l [] h = refl
+  last-unread l (x ∷ xs) h =
+      let two = neither (on x) (anyRead on xs) h in
+      rw (two .0) (last-unread l xs (two .1))
+
+  pub first-unread : (xs ys : List ℕ) → anyRead on xs ≡ false → firstRead on (xs ++ ys) ≡ firstRead on ys
+  unfolding firstRead anyRead
+  first-unread [] ys h = refl
+  first-unread (x ∷ xs) ys h =
+      let two = neither (on x) (anyRead on xs) h in
+      rw (two .0) (first-unread xs ys (two .1))
+
+  pub first-none : (xs : List ℕ) → anyRead on xs ≡ false → firstRead on xs ≡ Empty
+  unfolding firstRead anyRead
+  first-none [] h = refl
+  first-none (x ∷ xs) h =
+      let two = neither (on x) (anyRead on xs) h in
+      rw (two .0) (first-none xs (two .1))
+
+  -- a read lies on the line: later reads don't change what is read next
+  pub first-read : (xs ys : List ℕ) → anyRead on xs ≡ true → firstRead on (xs ++ ys) ≡ firstRead on xs
+  unfolding firstRead anyRead
+  first-read [] ys h = absurd (false≢true h)
+  first-read (x ∷ xs) ys h = go (on x) refl h (λ h′. first-read xs ys h′)
+    where
+      go : (b : Bool) → on x ≡ b → (b || anyRead on xs) ≡ true → (anyRead on xs ≡ true → firstRead on (xs ++ ys) ≡ firstRead on xs)
+          → cond (on x) (Held x) (firstRead on (xs ++ ys)) ≡ cond (on x) (Held x) (firstRead on xs)
+      go true e h′ f = rw e refl
+      go false e h′ f = rw e (f h′)

@@ -1,0 +1,78 @@
+-- Plan blocks (document 01, "Blocks of 512 bytes" and "Numbers given to the build"): which plans can be stored, the bytes of a plan, the plan
+-- of some bytes, and what storing and reading answer. Assumes nothing.
+use Prim.Native.Nat.{ℕ, zero, suc, _-_}
+use mathlib.Core.Bool.{Bool, true, false, cond, _&&_}
+use mathlib.Core.List.{List, [], _∷_, _++_}
+use lib.Dec.{eqb, leb, ltb}
+use lib.ListN.{length, getD, take, replicate}
+use Rattle.model.specs.Lists.{Place, nowhere, at, rightPoint}
+use Rattle.model.specs.Answers.{refusedAt, accepted, onAccepted}
+use Rattle.model.specs.declared.Plan.{Plan}
+use Rattle.model.specs.declared.Refusal.the-variants.{Length, Checksum, Block as WrongBlock, Argument, Output}
+use Rattle.model.specs.declared.Verdict.{Verdict}
+use Rattle.model.specs.declared.Verdict.the-variants.{Accepted, Refused}
+use Rattle.block.specs.Bytes.{le, les, field, fields}
+use Rattle.block.specs.Blocks.{numbered, sealed, checksumRight, bodyRight, lowestFrom}
+
+-- the point before index i; 0 before the first
+unfoldable pub pointBefore : List ℕ → ℕ → ℕ
+pointBefore ps zero = 0
+pointBefore ps (suc i) = getD ps i 0
+
+-- entry i of a plan: a right point below the count, and 0 from there on
+unfoldable pub entryRight : Plan → ℕ → Bool
+entryRight p i =
+    cond (ltb i (p .count)) (rightPoint (p .blocks) (pointBefore (p .points) i) (getD (p .points) i 0)) (eqb (getD (p .points) i 0) 0)
+
+-- N is 1 to 64 and the count at most 63
+unfoldable pub planInRange : Plan → Bool
+planInRange p = leb 1 (p .blocks) && leb (p .blocks) 64 && leb (p .count) 63
+
+-- can a plan be stored: 7 at 0 for N or the count, then 7 at the lowest wrong entry
+unfoldable pub planVerdict : Plan → Verdict
+planVerdict p = cond (planInRange p) (refusedAt (lowestFrom (entryRight p) 0 64) Argument Accepted) (Refused (Argument 0))
+
+-- writing: a plan block's named bytes, of kind 4
+unfoldable pub planNamed : Plan → List ℕ
+planNamed p =
+    le 1 4 ++ le 1 0 ++ le 2 (p .blocks) ++ le 2 (p .count) ++ le 2 (p .lines) ++ le 8 (p .cost) ++ le 4 (p .id) ++
+    les 2 (take (p .count) (p .points))
+
+-- the 512 bytes of a plan, in a block numbered 0
+unfoldable pub planBytes : Plan → List ℕ
+planBytes p = sealed (numbered 0 (planNamed p))
+
+-- reading: where each number of a plan stands; zero points beyond the count
+unfoldable pub planOf : List ℕ → Plan
+planOf bs =
+    record {
+      blocks = field bs 2 2;
+      id = field bs 16 4;
+      count = field bs 4 2;
+      lines = field bs 6 2;
+      cost = field bs 8 8;
+      points = fields bs 20 2 (field bs 4 2) ++ replicate (64 - field bs 4 2) 0;
+    }
+
+-- a plan block is right: its kind and number, N, the count, the points and the zero bytes
+unfoldable pub planRight : List ℕ → Bool
+planRight bs = accepted (planVerdict (planOf bs)) && bodyRight 0 (planNamed (planOf bs)) bs
+
+-- what reading any bytes answers: 1, 2 and 5, all at place 0
+unfoldable pub readVerdict : List ℕ → Verdict
+readVerdict bs =
+    cond (eqb (length bs) 512)
+    (cond (checksumRight bs) (cond (planRight bs) Accepted (Refused (WrongBlock 0))) (Refused (Checksum 0)))
+    (Refused Length)
+
+-- the plan that a refused read carries
+abbrev pub noPlan : Plan
+noPlan = record { blocks = 0; id = 0; count = 0; lines = 0; cost = 0; points = replicate 64 0 }
+
+-- what storing a plan into a lent buffer answers: 9 first
+unfoldable pub storeVerdict : Plan → List ℕ → Verdict
+storeVerdict p out = cond (eqb (length out) 512) (planVerdict p) (Refused Output)
+
+-- the buffer after it: the plan's bytes, and on a refusal what it held
+unfoldable pub stored : Plan → List ℕ → List ℕ
+stored p out = onAccepted (storeVerdict p out) (planBytes p) out

@@ -2,7 +2,7 @@
 -- Assumes nothing.
 use Prim.Native.Nat.{ℕ}
 use mathlib.Core.Path.{_≡_, refl, sym, ap, _∙_}
-use mathlib.Core.Bool.{Bool, true, false, cond, _||_, or-assoc, false≢true, true≢false}
+use mathlib.Core.Bool.{Bool, true, false, cond, _||_, or-assoc, true≢false}
 use mathlib.Core.List.{List, [], _∷_, _++_}
 use Rattle.model.specs.Lines.{lastRead, firstRead, anyRead}
 use Rattle.model.specs.declared.Line.{Line}
@@ -23,20 +23,13 @@ module _ (on : ℕ → Bool) where
   any-append [] ys = refl
   any-append (x ∷ xs) ys = ap (λ (b : Bool). on x || b) (any-append xs ys) ∙ sym (or-assoc (on x) (anyRead on xs) (anyRead on ys))
 
-  -- no read lies on the line: its state stays, and the next read is a later one
+  -- no read lies on the line: its state stays, and none is the next
   pub last-unread : (l : Line) (xs : List ℕ) → anyRead on xs ≡ false → lastRead on l xs ≡ l
   unfolding lastRead anyRead
   last-unread l [] h = refl
   last-unread l (x ∷ xs) h =
       let two = neither (on x) (anyRead on xs) h in
       rw (two .0) (last-unread l xs (two .1))
-
-  pub first-unread : (xs ys : List ℕ) → anyRead on xs ≡ false → firstRead on (xs ++ ys) ≡ firstRead on ys
-  unfolding firstRead anyRead
-  first-unread [] ys h = refl
-  first-unread (x ∷ xs) ys h =
-      let two = neither (on x) (anyRead on xs) h in
-      rw (two .0) (first-unread xs ys (two .1))
 
   pub first-none : (xs : List ℕ) → anyRead on xs ≡ false → firstRead on xs ≡ Empty
   unfolding firstRead anyRead
@@ -45,13 +38,13 @@ module _ (on : ℕ → Bool) where
       let two = neither (on x) (anyRead on xs) h in
       rw (two .0) (first-none xs (two .1))
 
-  -- a read lies on the line: later reads don't change what is read next
-  pub first-read : (xs ys : List ℕ) → anyRead on xs ≡ true → firstRead on (xs ++ ys) ≡ firstRead on xs
+  -- what is read next is among the earlier reads if one of them lies on the line
+  pub first-append : (xs ys : List ℕ) → firstRead on (xs ++ ys) ≡ cond (anyRead on xs) (firstRead on xs) (firstRead on ys)
   unfolding firstRead anyRead
-  first-read [] ys h = absurd (false≢true h)
-  first-read (x ∷ xs) ys h = go (on x) refl h (λ h′. first-read xs ys h′)
+  first-append [] ys = refl
+  first-append (x ∷ xs) ys = go (on x) (first-append xs ys)
     where
-      go : (b : Bool) → on x ≡ b → (b || anyRead on xs) ≡ true → (anyRead on xs ≡ true → firstRead on (xs ++ ys) ≡ firstRead on xs)
-          → cond (on x) (Held x) (firstRead on (xs ++ ys)) ≡ cond (on x) (Held x) (firstRead on xs)
-      go true e h′ f = rw e refl
-      go false e h′ f = rw e (f h′)
+      go : (b : Bool) → firstRead on (xs ++ ys) ≡ cond (anyRead on xs) (firstRead on xs) (firstRead on ys)
+          → cond b (Held x) (firstRead on (xs ++ ys)) ≡ cond (b || anyRead on xs) (cond b (Held x) (firstRead on xs)) (firstRead on ys)
+      go true e = refl
+      go false e = e

@@ -34,7 +34,7 @@ in-zeros n d = rw (zeros-at n (d / 64)) (digit-of-zero (d % 64))
 -- ---- one line added
 
 -- the words with a line's digit set in its word, as the code sets it
-abbrev added : List ℕ → ℕ → List ℕ
+abbrev pub added : List ℕ → ℕ → List ℕ
 added ws line = set ws (line / 64) (bitOr (getD ws (line / 64) 0) (1 * 2 ^ bitAnd line 63 % 2 ^ 64))
 
 eqb-low : (d line : ℕ) → d / 64 ≡ line / 64 → eqb (d % 64) (line % 64) ≡ eqb d line

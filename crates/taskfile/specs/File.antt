@@ -77,6 +77,10 @@ blockIn file k = take 512 (drop (512 * k) file)
 unfoldable pub blocksIn : List ℕ → ℕ
 blocksIn file = length file / 512
 
+-- the reads of block k, of a basic block or a preempter block
+unfoldable pub entryReads : List ℕ → ℕ → List ℕ
+entryReads file k = readsIn (blockIn file k)
+
 unfoldable pub header : List ℕ → Header
 header file = headerOf (blockIn file 0)
 

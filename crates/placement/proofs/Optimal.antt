@@ -1,0 +1,117 @@
+-- From the rows of all edges to the whole: by induction on a list of points, the cost at an edge is at most that of each list that fits from there on, and
+-- a list that the next edges lead through fits and has that cost. Assumes nothing.
+use Prim.Native.Nat.{ℕ, _+_, _-_, _*_, _^_, _≤_, _<_, zero-le}
+use mathlib.Core.Path.{_≡_, refl, ap, _∙_}
+use mathlib.Core.Bool.{Bool, true, false, and-eq-true-iff}
+use mathlib.Core.List.{List, [], _∷_}
+use native.Mathlib.Nat.{le-refl, le-of-lt, lt-trans}
+use native.Mathlib.Omega.{arith}
+use borrow.Author.Tests.{ltb-true, lt-ltb}
+use lib.Dec.{ltb}
+use lib.ListN.{getD}
+use Rattle.model.specs.Lists.{steps, regions, every, total, rightPoint, listCost, LeastCost, NoneFits}
+use Rattle.placement.specs.Table.{none, entry, slot, Holds}
+use Rattle.placement.specs.Rows.{Rows, Leads}
+
+-- points after edge a and below n that cut the blocks after a into regions that fit
+data Way (fit : ℕ → ℕ → Bool) (n : ℕ) : ℕ → List ℕ → Type 0 where
+  last : {a : ℕ} → a < n → fit a n ≡ true → Way fit n a []
+  next : {a p : ℕ} {ps : List ℕ} → a < p → p < n → fit a p ≡ true → Way fit n p ps → Way fit n a (p ∷ ps)
+
+module _ (fit : ℕ → ℕ → Bool) (n : ℕ) where
+  to-way : (a : ℕ) (ps : List ℕ) → a < n → every (rightPoint n) (steps a ps) ≡ true → every fit (regions n a ps) ≡ true → Way fit n a ps
+  unfolding every steps regions
+  to-way a [] h right fits = last h (and-eq-true-iff (fit a n) true .0 fits .0)
+  to-way a (p ∷ ps) h right fits =
+      let r = and-eq-true-iff (rightPoint n a p) (every (rightPoint n) (steps p ps)) .0 right in
+      let s = and-eq-true-iff (ltb a p) (ltb p n) .0 (r .0) in
+      let f = and-eq-true-iff (fit a p) (every fit (regions n p ps)) .0 fits in
+      let below = ltb-true p n (s .1) in
+      next (ltb-true a p (s .0)) below (f .0) (to-way p ps below (r .1) (f .1))
+
+module _ {fit : ℕ → ℕ → Bool} {n : ℕ} where
+  way-right : {a : ℕ} {ps : List ℕ} → Way fit n a ps → every (rightPoint n) (steps a ps) ≡ true
+  unfolding every steps
+  way-right (last h f) = refl
+  way-right (next {a = a} {p = p} lo hi f w) = rw (lt-ltb a p lo, lt-ltb p n hi) (way-right w)
+
+  way-fits : {a : ℕ} {ps : List ℕ} → Way fit n a ps → every fit (regions n a ps) ≡ true
+  unfolding every regions
+  way-fits (last h f) = rw f
+  way-fits (next lo hi f w) = rw f (way-fits w)
+
+module _ {table : List ℕ} {n : ℕ} {fit : ℕ → ℕ → Bool} {cost : ℕ → ℕ → ℕ} (held : Holds table n fit cost) where
+  -- the table has the cost of a region that fits
+  in-table : {a b : ℕ} → a < b → b ≤ n → fit a b ≡ true → getD table (slot a b) 0 ≡ cost a b
+  unfolding entry
+  in-table {a} {b} h le e = held .entries a b h le ∙ ap (λ (f : Bool). entry f (cost a b)) e
+
+  -- a region whose entry is below none fits
+  fitting : {a b : ℕ} → a < b → b ≤ n → getD table (slot a b) 0 < none → fit a b ≡ true
+  unfolding entry
+  fitting {a} {b} h le lt = go (fit a b) (held .entries a b h le)
+    where
+      go : (f : Bool) → getD table (slot a b) 0 ≡ entry f (cost a b) → f ≡ true
+      go true e = refl
+      go false e = absurd (omega arith)
+
+  bounded : {a : ℕ} {ps : List ℕ} → Way fit n a ps → total cost (regions n a ps) ≤ 2 ^ 56 * (n - a)
+  unfolding total regions
+  bounded (last {a = a} h f) = omega (arith, held .bounded a n h (le-refl n) f)
+  bounded (next {a = a} {p = p} lo hi f w) = omega (arith, held .bounded a p lo (le-of-lt hi) f, bounded w)
+
+  module _ {costs nexts : List ℕ} (rows : Rows table n 0 costs nexts) where
+    lower-bound : {a : ℕ} {ps : List ℕ} → Way fit n a ps → getD costs a 0 ≤ total cost (regions n a ps)
+    unfolding total regions
+    lower-bound (last {a = a} h f) = omega (arith, rows .row a zero-le h .least n h (le-refl n), rows .end, in-table h (le-refl n) f)
+    lower-bound (next {a = a} {p = p} lo hi f w) =
+        omega (arith, rows .row a zero-le (lt-trans lo hi) .least p lo (le-of-lt hi), in-table lo (le-of-lt hi) f, lower-bound w)
+
+    -- of an edge a with a cost, the next edge b
+    record Onward (a b : ℕ) : Type 0 where
+      above : a < b
+      within : b ≤ n
+      fits : fit a b ≡ true
+      rest : getD costs b 0 < none
+      sum : getD costs a 0 ≡ cost a b + getD costs b 0
+
+    onward : (a b : ℕ) → a < n → getD nexts a 0 ≡ b → getD costs a 0 < none → Onward a b
+    onward a b h e lt =
+        let r = rows .row a zero-le h in
+        let above : a < b = omega (arith, r .above) in
+        let within : b ≤ n = omega (arith, r .within) in
+        let attained = rw e at (r .attained) in
+        let f = fitting above within (omega arith) in
+        record { above = above; within = within; fits = f; rest = omega arith; sum = omega (arith, in-table above within f) }
+
+    record Cheapest (a : ℕ) (ps : List ℕ) : Type 0 where
+      way : Way fit n a ps
+      costs-it : getD costs a 0 ≡ total cost (regions n a ps)
+
+    cheapest : (a : ℕ) (ps : List ℕ) → a < n → Leads nexts n (getD nexts a 0) ps → getD costs a 0 < none → Cheapest a ps
+    unfolding Leads total regions
+    cheapest a [] h l lt =
+        let o = onward a n h l lt in
+        record { way = last h (o .fits); costs-it = omega (arith, rows .end, o .sum) }
+    cheapest a (p ∷ ps) h l lt =
+        let o = onward a p h (l .0) lt in
+        let c = cheapest p ps (l .1) (l .2) (o .rest) in
+        record { way = next (o .above) (l .1) (o .fits) (c .way); costs-it = omega (arith, o .sum, c .costs-it) }
+
+    module _ (positive : 0 < n) where
+      pub optimal : (ps : List ℕ) → Leads nexts n (getD nexts 0 0) ps → getD costs 0 0 < none → LeastCost n fit cost ps
+      optimal ps l lt =
+          let c = cheapest 0 ps positive l lt in
+          record {
+            well-formed = way-right (c .way);
+            fits = way-fits (c .way);
+            least = λ qs right fits. rw (← c .costs-it) (lower-bound (to-way fit n 0 qs positive right fits));
+          }
+
+      pub sum : (ps : List ℕ) → Leads nexts n (getD nexts 0 0) ps → getD costs 0 0 < none → getD costs 0 0 ≡ listCost cost n ps
+      sum ps l lt = cheapest 0 ps positive l lt .costs-it
+
+      pub refused : n ≤ 64 → getD costs 0 0 ≡ none → NoneFits n fit
+      refused most e qs right fits =
+          let w = to-way fit n 0 qs positive right fits in
+          omega (arith, lower-bound w, bounded w)

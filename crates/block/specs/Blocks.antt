@@ -4,7 +4,9 @@ use Prim.Native.Nat.{ℕ, zero, suc, _-_}
 use mathlib.Core.Bool.{Bool, cond}
 use mathlib.Core.List.{List, _++_}
 use lib.ListN.{length, take, replicate}
-use Rattle.model.specs.Lists.{Place, nowhere, at, sameList}
+use Rattle.model.specs.Lists.{sameList}
+use Rattle.model.specs.declared.Place.{Place}
+use Rattle.model.specs.declared.Place.the-variants.{Nowhere, At}
 use Rattle.fnv.specs.Fnv.{fnv1a}
 use Rattle.block.specs.Bytes.{le}
 
@@ -26,5 +28,5 @@ bodyRight k named bs = sameList (take 508 bs) (numbered k named)
 
 -- the lowest k, of the n from a, at which f does not hold
 unfoldable pub lowestFrom : (ℕ → Bool) → ℕ → ℕ → Place
-lowestFrom f a zero = nowhere
-lowestFrom f a (suc n) = cond (f a) (lowestFrom f (suc a) n) (at a)
+lowestFrom f a zero = Nowhere
+lowestFrom f a (suc n) = cond (f a) (lowestFrom f (suc a) n) (At a)

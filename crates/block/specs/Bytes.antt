@@ -1,8 +1,12 @@
 -- Numbers in bytes, their lowest byte first (document 01's introduction).
 -- Assumes nothing.
-use Prim.Native.Nat.{ℕ, zero, suc, _+_, _*_, _/_, _%_}
+use Prim.Native.Nat.{ℕ, zero, suc, _+_, _*_, _/_, _%_, _<_}
 use mathlib.Core.List.{List, [], _∷_, _++_}
-use lib.ListN.{take, drop}
+use lib.ListN.{length, getD, take, drop}
+
+-- each is a byte
+abbrev pub AllBytes : List ℕ → Type 0
+AllBytes bs = (i : ℕ) → i < length bs → getD bs i 0 < 256
 
 -- n in w bytes
 unfoldable pub le : ℕ → ℕ → List ℕ

@@ -1,0 +1,120 @@
+// Numbers in bytes, their lowest byte first, and the frame of a block of 512 bytes.
+ghost use mathlib.Core.Path.{_≡_};
+ghost use mathlib.Core.List.{_++_};
+ghost use Prim.Native.Nat.{_+_, _-_, _≤_};
+ghost use lib.ListN.{length, take, drop, replicate};
+ghost use Rattle.model.specs.Lists.{sameList};
+ghost use Rattle.block.specs.Bytes.{le, field};
+ghost use Rattle.block.specs.Blocks.{sealed, checksumRight, bodyRight};
+
+// The number in two bytes.
+pub fn u16_at(bytes: &[u8], at: usize) -> u16
+    requires { ⌜ at + 2 ≤ length (now bytes) ⌝ }
+    ensures { λ r. ⌜ r ≡ field (now (bytes .entry)) at 2 ⌝ }
+{
+    let low = bytes[at] as u16;
+    let high = bytes[at + 1] as u16;
+    low + 256 * high
+}
+
+// The number in four bytes.
+pub fn u32_at(bytes: &[u8], at: usize) -> u32
+    requires { ⌜ at + 4 ≤ length (now bytes) ⌝ }
+    ensures { λ r. ⌜ r ≡ field (now (bytes .entry)) at 4 ⌝ }
+{
+    u16_at(bytes, at) as u32 + 65536 * (u16_at(bytes, at + 2) as u32)
+}
+
+// The number in eight bytes.
+pub fn u64_at(bytes: &[u8], at: usize) -> u64
+    requires { ⌜ at + 8 ≤ length (now bytes) ⌝ }
+    ensures { λ r. ⌜ r ≡ field (now (bytes .entry)) at 8 ⌝ }
+{
+    u32_at(bytes, at) as u64 + 4294967296 * (u32_at(bytes, at + 4) as u64)
+}
+
+// Whether the bytes from from up to to are all zero.
+pub fn zero_between(bytes: &[u8], from: usize, to: usize) -> bool
+    requires { ⌜ to ≤ length (now bytes) ⌝ }
+    ensures { λ r. ⌜ r ≡ sameList (take (to - from) (drop from (now (bytes .entry)))) (replicate (to - from) 0) ⌝ }
+{
+    let mut i = from;
+    while i < to {
+        if bytes[i] != 0 {
+            return false;
+        }
+        i += 1;
+    }
+    true
+}
+
+// Whether a block's last four bytes are the hash of the others.
+pub fn checksum_right(block: &[u8]) -> bool
+    requires { ⌜ length (now block) ≡ 512 ⌝ }
+    ensures { λ r. ⌜ r ≡ checksumRight (now (block .entry)) ⌝ }
+{
+    u32_at(block, 508) == fnv::hash(&block[..508])
+}
+
+// Whether a block has this kind and number, and zeros from end on; bytes 1 to end - 1 are free.
+pub fn body_right(block: &[u8], number: u32, kind: u8, end: usize) -> bool
+    requires { ⌜ length (now block) ≡ 512 ⌝ }
+    requires { ⌜ (1 ≤ end) × (end ≤ 504) ⌝ }
+    ensures { λ r. ⌜ r ≡ bodyRight number (le 1 kind ++ take (end - 1) (drop 1 (now (block .entry)))) (now (block .entry)) ⌝ }
+{
+    if block[0] != kind {
+        return false;
+    }
+    if !zero_between(block, end, 504) {
+        return false;
+    }
+    u32_at(block, 504) == number
+}
+
+// Stores a number in two bytes.
+pub fn put_u16(bytes: &mut [u8], at: usize, v: u16)
+    requires { ⌜ at + 2 ≤ length (now bytes) ⌝ }
+    ensures { λ _. ⌜ now (bytes .exit) ≡ take at (now (bytes .entry)) ++ le 2 v ++ drop (at + 2) (now (bytes .entry)) ⌝ }
+{
+    bytes[at] = (v % 256) as u8;
+    bytes[at + 1] = (v / 256) as u8;
+}
+
+// Stores a number in four bytes.
+pub fn put_u32(bytes: &mut [u8], at: usize, v: u32)
+    requires { ⌜ at + 4 ≤ length (now bytes) ⌝ }
+    ensures { λ _. ⌜ now (bytes .exit) ≡ take at (now (bytes .entry)) ++ le 4 v ++ drop (at + 4) (now (bytes .entry)) ⌝ }
+{
+    put_u16(bytes, at, (v % 65536) as u16);
+    put_u16(bytes, at + 2, (v / 65536) as u16);
+}
+
+// Stores a number in eight bytes.
+pub fn put_u64(bytes: &mut [u8], at: usize, v: u64)
+    requires { ⌜ at + 8 ≤ length (now bytes) ⌝ }
+    ensures { λ _. ⌜ now (bytes .exit) ≡ take at (now (bytes .entry)) ++ le 8 v ++ drop (at + 8) (now (bytes .entry)) ⌝ }
+{
+    put_u32(bytes, at, (v % 4294967296) as u32);
+    put_u32(bytes, at + 4, (v / 4294967296) as u32);
+}
+
+// Stores zeros from from up to to.
+pub fn clear_between(bytes: &mut [u8], from: usize, to: usize)
+    requires { ⌜ (from ≤ to) × (to ≤ length (now bytes)) ⌝ }
+    ensures { λ _. ⌜ now (bytes .exit) ≡ take from (now (bytes .entry)) ++ replicate (to - from) 0 ++ drop to (now (bytes .entry)) ⌝ }
+{
+    let mut i = from;
+    while i < to {
+        bytes[i] = 0;
+        i += 1;
+    }
+}
+
+// Stores a block's checksum.
+pub fn seal(block: &mut [u8])
+    requires { ⌜ length (now block) ≡ 512 ⌝ }
+    ensures { λ _. ⌜ now (block .exit) ≡ sealed (take 508 (now (block .entry))) ⌝ }
+{
+    let hash = fnv::hash(&block[..508]);
+    put_u32(block, 508, hash);
+}

@@ -168,7 +168,7 @@ sound (priced t ps l p) h =
     let two = and-split (accepted (pricing t ps)) (eqb (lines t ps) l) (three .0) in
     (is-accepted (pricing t ps) (two .0), eqb-true (lines t ps) l (two .1), eqb-true (cost t ps) p (three .1))
 sound (refused t ps n i) h = is-refused n i (pricing t ps) h
-sound (lineIs t m c) h = λ d. ap (λ (x : ℕ). eqb x d) (eqb-true (lineOf t m) c h)
+sound (lineIs t m c) h = λ d. ap (λ (x : ℕ). eqb d x) (eqb-true (lineOf t m) c h)
 
 all-pass : everyCase cases ≡ true
 unfolding everyCase test agreeBelow everyList onAll exactly some refusedBy listed useful stateAfter nextRead lastRead firstRead readsOf lineOf onLine accessed anyRead blockAt accessedUseful evicted preempterReads loaded unionAfter regionLines countBelow regionLength timeAfter regionFits regionCost every total lowest regions steps among sameList risingLists

@@ -1,10 +1,17 @@
 -- Laws of a line's state and its next read over a list of reads that grows at its end.
 -- Assumes nothing.
-use Prim.Native.Nat.{ℕ}
+use Prim.Native.Nat.{ℕ, _+_, _%_, _≤_, _<_}
+use native.Mathlib.Nat.{mod-lt}
+use native.Mathlib.Numerals.{add-one}
+use native.Mathlib.Omega.{arith}
+use lib.ListN.{length, getD, take, drop}
+use lib.Seq.{take-suc}
+use borrow.Author.Tests.{ne-eqb}
 use mathlib.Core.Path.{_≡_, refl, sym, ap, _∙_}
-use mathlib.Core.Bool.{Bool, true, false, cond, _||_, or-assoc, true≢false}
+use mathlib.Core.Bool.{Bool, true, false, cond, _||_, or-assoc, or-false, true≢false}
 use mathlib.Core.List.{List, [], _∷_, _++_}
-use Rattle.model.specs.Lines.{lastRead, firstRead, anyRead}
+use Rattle.model.specs.Task.{Task}
+use Rattle.model.specs.Lines.{lineOf, onLine, lastRead, firstRead, anyRead, sameBlock, readsOf, stateAfter, nextRead, useful}
 use Rattle.model.specs.declared.Line.{Line}
 use Rattle.model.specs.declared.Line.the-variants.{Empty, Held}
 
@@ -48,3 +55,27 @@ module _ (on : ℕ → Bool) where
           → cond b (Held x) (firstRead on (xs ++ ys)) ≡ cond (b || anyRead on xs) (cond b (Held x) (firstRead on xs)) (firstRead on ys)
       go true e = refl
       go false e = e
+
+  -- one read more
+  pub any-take : (xs : List ℕ) (j : ℕ) → j < length xs → anyRead on (take (j + 1) xs) ≡ (anyRead on (take j xs) || on (getD xs j 0))
+  unfolding anyRead
+  any-take xs j h =
+      rw (add-one j, take-suc xs j 0 h) (any-append (take j xs) (getD xs j 0 ∷ []))
+      ∙ ap (λ (b : Bool). anyRead on (take j xs) || b) (or-false (on (getD xs j 0)))
+
+pub never-empty : (l : Line) → sameBlock l Empty ≡ false
+never-empty Empty = refl
+never-empty (Held n) = refl
+
+-- no number lies on a line beyond the cache, so none is useful there
+module _ (t : Task) (least : 1 ≤ t .lineCount) (c : ℕ) (beyond : t .lineCount ≤ c) where
+  pub unread-beyond : (xs : List ℕ) → anyRead (onLine t c) xs ≡ false
+  unfolding anyRead onLine lineOf
+  unread-beyond [] = refl
+  unread-beyond (x ∷ xs) = rw (ne-eqb c (x % t .lineCount) (λ e. omega (arith, mod-lt x least))) (unread-beyond xs)
+
+  pub useful-beyond : (k : ℕ) → useful t k c ≡ false
+  unfolding useful nextRead
+  useful-beyond k =
+      ap (sameBlock (stateAfter t k c)) (first-none (onLine t c) (readsOf (drop k (t .blocks))) (unread-beyond (readsOf (drop k (t .blocks))))) ∙
+      never-empty (stateAfter t k c)

@@ -1,12 +1,14 @@
--- Laws of lists of points: the enumeration has every well-formed list and no other.
+-- Laws of lists of points: the test that two are the same, and the enumeration, which has every well-formed list and no other.
 -- Assumes nothing.
 use Prim.Native.Nat.{ℕ, zero, suc, _+_, _-_, _<_, _≤_}
 use mathlib.Core.Path.{_≡_, refl, sym, ap, ap₂, _∙_}
-use mathlib.Core.Bool.{Bool, true, false, _&&_, _||_, or-assoc, or-false, and-false, false≢true}
+use mathlib.Core.Bool.{Bool, true, false, _&&_, _||_, and-assoc, or-assoc, or-false, and-false, false≢true}
+use mathlib.Core.Logic.{_↔_}
 use mathlib.Core.List.{List, [], _∷_, _++_, map}
 use native.Mathlib.Omega.{arith}
 use native.Mathlib.Decide.{ℕ-discrete}
 use lib.Dec.{eqb, ltb}
+use lib.ListN.{length}
 use borrow.Author.Tests.{eqb-true, eqb-false, eq-eqb, ne-eqb, ltb-true, ltb-false, lt-ltb, le-ltb}
 use Rattle.model.specs.Lists.{Region, steps, every, rightPoint, wellFormed, sameList, among, risingLists, allLists}
 
@@ -31,6 +33,26 @@ pub list-same : (ps : List ℕ) → sameList ps ps ≡ true
 unfolding sameList
 list-same [] = refl
 list-same (p ∷ ps) = simp (eq-eqb p p refl, list-same ps)
+
+pub same-iff : (ps qs : List ℕ) → (sameList ps qs ≡ true) ↔ (ps ≡ qs)
+same-iff ps qs = (same-list ps qs, λ e. rw (← e) (list-same ps))
+
+-- two lists that are the same exactly where two numbers are
+pub same-eqb : (ps qs : List ℕ) (m n : ℕ) → (m ≡ n) ↔ (ps ≡ qs) → sameList ps qs ≡ eqb m n
+same-eqb ps qs m n e = go (eqb m n) refl (sameList ps qs) refl
+  where
+    go : (a : Bool) → eqb m n ≡ a → (b : Bool) → sameList ps qs ≡ b → b ≡ a
+    go true p b q = sym q ∙ same-iff ps qs .1 (e .0 (eqb-true m n p))
+    go false p true q = absurd (eqb-false m n p (e .1 (same-list ps qs q)))
+    go false p false q = refl
+
+pub same-append : (ps qs ps′ qs′ : List ℕ) → length ps ≡ length qs → sameList (ps ++ ps′) (qs ++ qs′) ≡ (sameList ps qs && sameList ps′ qs′)
+unfolding sameList
+same-append [] [] ps′ qs′ h = refl
+same-append [] (q ∷ qs) ps′ qs′ h = absurd (omega arith)
+same-append (p ∷ ps) [] ps′ qs′ h = absurd (omega arith)
+same-append (p ∷ ps) (q ∷ qs) ps′ qs′ h =
+    ap (λ (b : Bool). eqb p q && b) (same-append ps qs ps′ qs′ (omega arith)) ∙ sym (and-assoc (eqb p q) (sameList ps qs) (sameList ps′ qs′))
 
 among-append : (ps : List ℕ) (xs ys : List (List ℕ)) → among ps (xs ++ ys) ≡ (among ps xs || among ps ys)
 unfolding among

@@ -3,8 +3,10 @@ use Prim.Native.Nat.{ℕ, _+_, _*_}
 use mathlib.Core.Bool.{Bool, true, false}
 use mathlib.Core.List.{List}
 use Rattle.model.specs.Task.{Task, blockCount}
-use Rattle.model.specs.Lists.{Place, nowhere, at, wrongPoint}
+use Rattle.model.specs.Lists.{wrongPoint}
 use Rattle.model.specs.Regions.{regionAbove}
+use Rattle.model.specs.declared.Place.{Place}
+use Rattle.model.specs.declared.Place.the-variants.{Nowhere, At}
 use Rattle.model.specs.declared.Refusal.{Refusal}
 use Rattle.model.specs.declared.Refusal.the-variants.{Length, Checksum, Header, BlockCount, Block, NoPlacement, Argument, AboveLimit, Output}
 use Rattle.model.specs.declared.Verdict.{Verdict}
@@ -50,8 +52,13 @@ onAccepted (Refused r) a b = b
 
 -- refused where there is a place, else as the later rows say
 abbrev pub refusedAt : Place → (ℕ → Refusal) → Verdict → Verdict
-refusedAt nowhere r later = later
-refusedAt (at i) r later = Refused (r i)
+refusedAt Nowhere r later = later
+refusedAt (At i) r later = Refused (r i)
+
+-- the first refusal of two that are looked at in this order
+abbrev pub andThen : Verdict → Verdict → Verdict
+andThen Accepted later = later
+andThen (Refused r) later = Refused r
 
 -- pricing a list: 7 at the lowest wrong point, then 8 at the lowest region above the limit
 abbrev pub pricing : Task → List ℕ → Verdict

@@ -45,7 +45,7 @@ Holds (fittingAre t pss) = (ps : List ℕ) → (wellFormed (blockCount t) ps && 
 Holds (noneFits t) = NoPlacementFits t
 Holds (priced t ps l p) = (pricing t ps ≡ Accepted) × (lines t ps ≡ l) × (cost t ps ≡ p)
 Holds (refused t ps n i) = (r : Refusal) × (pricing t ps ≡ Refused r) × (number r ≡ n) × (place r ≡ i)
-Holds (lineIs t m c) = (d : ℕ) → onLine t d m ≡ eqb c d
+Holds (lineIs t m c) = (d : ℕ) → onLine t d m ≡ eqb d c
 
 abbrev pub block : ℕ → List ℕ → Block
 block time reads = record { time = time; reads = reads }

@@ -4,4 +4,5 @@ pub mod Lines
 pub mod Lists
 pub mod Regions
 pub mod Answers
+pub mod Planning
 pub mod Cases

@@ -16,7 +16,7 @@ lineOf t m = m % t .lineCount
 
 -- memory block m lies on line c
 unfoldable pub onLine : Task → ℕ → ℕ → Bool
-onLine t c m = eqb (lineOf t m) c
+onLine t c m = eqb c (lineOf t m)
 
 -- the state of a line that was l, after these reads; on tells which numbers lie on it
 unfoldable pub lastRead : (ℕ → Bool) → Line → List ℕ → Line

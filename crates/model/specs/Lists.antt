@@ -5,6 +5,8 @@ use mathlib.Core.Path.{_≡_}
 use mathlib.Core.Bool.{Bool, true, false, cond, _&&_, _||_}
 use mathlib.Core.List.{List, [], _∷_, _++_, map}
 use lib.Dec.{eqb, ltb}
+use Rattle.model.specs.declared.Place.{Place}
+use Rattle.model.specs.declared.Place.the-variants.{Nowhere, At}
 
 -- a region (document 01's stretch): the basic blocks after edge from, up to edge to
 pub record Region : Type 0 where
@@ -31,14 +33,10 @@ unfoldable pub total : (ℕ → ℕ → ℕ) → List Region → ℕ
 total f [] = 0
 total f (r ∷ rs) = f (r .from) (r .to) + total f rs
 
-pub data Place : Type 0 where
-  nowhere : Place
-  at : ℕ → Place
-
 -- the lowest index, counted from i, at which f does not hold
 unfoldable pub lowest : (ℕ → ℕ → Bool) → ℕ → List Region → Place
-lowest f i [] = nowhere
-lowest f i (r ∷ rs) = cond (f (r .from) (r .to)) (lowest f (suc i) rs) (at i)
+lowest f i [] = Nowhere
+lowest f i (r ∷ rs) = cond (f (r .from) (r .to)) (lowest f (suc i) rs) (At i)
 
 -- a point p after the point a (0 for the first) is above it and below n
 abbrev pub rightPoint : ℕ → ℕ → ℕ → Bool

@@ -19,6 +19,12 @@ pub enum Refusal {
     Output,
 }
 
+// The lowest place at which something does not hold.
+pub enum Place {
+    Nowhere,
+    At(usize),
+}
+
 // What a call answers where it has no value to give beside it.
 pub enum Verdict {
     Accepted,

@@ -5,7 +5,9 @@ use mathlib.Core.Bool.{Bool, true, false, cond, _&&_}
 use mathlib.Core.List.{List, [], _∷_, _++_}
 use lib.Dec.{eqb, leb, ltb}
 use lib.ListN.{length, getD, take, replicate}
-use Rattle.model.specs.Lists.{Place, nowhere, at, rightPoint}
+use Rattle.model.specs.Lists.{rightPoint}
+use Rattle.model.specs.declared.Place.{Place}
+use Rattle.model.specs.declared.Place.the-variants.{Nowhere as nowhere, At as at}
 use Rattle.model.specs.Answers.{refusedAt, accepted, onAccepted}
 use Rattle.model.specs.declared.Plan.{Plan}
 use Rattle.model.specs.declared.Refusal.the-variants.{Length, Checksum, Block as WrongBlock, Argument, Output}

@@ -1,0 +1,157 @@
+-- Laws of blocks of 512 bytes: the tests of a checksum and of a body, part by part, and what the tests say together.
+-- Assumes nothing.
+use Prim.Native.Nat.{ℕ, zero, suc, _+_, _-_, _*_, _^_, _<_, _≤_}
+use mathlib.Core.Path.{_≡_, refl, sym, ap, ap₂, _∙_}
+use mathlib.Core.Bool.{Bool, true, false, cond, _&&_, and-true}
+use mathlib.Core.Logic.{by-cases}
+use mathlib.Core.List.{List, _++_, append-nil, append-assoc}
+use native.Mathlib.Omega.{arith}
+use native.Mathlib.Decide.{ℕ-discrete}
+use lib.Dec.{eqb}
+use lib.ListN.{length, getD, take, drop, replicate, length-append, length-drop, length-replicate, take-append-drop, drop-of-length-le}
+use lib.Seq.{take-all, take-add, take-at, take-append-seam, length-take-le}
+use Rattle.model.specs.Lists.{sameList}
+use Rattle.model.specs.declared.Place.the-variants.{Nowhere, At}
+use Rattle.model.proofs.Lists.{same-list, list-same, same-append}
+use Rattle.fnv.specs.Fnv.{fnv1a}
+use Rattle.fnv.proofs.Laws.{hash-below}
+use Rattle.block.specs.Bytes.{AllBytes, le, field, fields}
+use Rattle.block.specs.Blocks.{numbered, sealed, checksumRight, bodyRight, lowestFrom}
+use Rattle.block.proofs.Bytes.{length-le, length-part, same-field, field-byte, field-take, fields-take}
+
+pub fnv-below : (bs : List ℕ) → fnv1a bs < 2 ^ 32
+unfolding fnv1a
+fnv-below bs = hash-below 2166136261 bs (omega arith)
+
+-- the checksum's test is of the last four bytes
+pub checksum-field : (bs : List ℕ) → AllBytes bs → length bs ≡ 512 → checksumRight bs ≡ eqb (field bs 508 4) (fnv1a (take 508 bs))
+unfolding checksumRight sealed
+checksum-field bs b l =
+    let h : List ℕ = le 4 (fnv1a (take 508 bs)) in
+    let end : take 4 (drop 508 bs) ≡ drop 508 bs = take-all 4 (drop 508 bs) (omega (arith, length-drop 508 bs)) in
+    ap (λ (r : List ℕ). sameList r (take 508 bs ++ h)) (sym (take-append-drop 508 bs)) ∙
+    same-append (take 508 bs) (take 508 bs) (drop 508 bs) h refl ∙
+    rw (list-same, ← end) (same-field bs 508 4 (fnv1a (take 508 bs)) b (omega arith) (fnv-below (take 508 bs)))
+
+-- what `seal` leaves
+pub seal-put : (bs new : List ℕ) (h : ℕ) → length bs ≡ 512 → new ≡ take 508 bs ++ le 4 h ++ drop 512 bs → h ≡ fnv1a (take 508 bs)
+    → new ≡ sealed (take 508 bs)
+unfolding sealed
+seal-put bs new h l p q =
+    rw (p, q, drop-of-length-le bs {i = 512} (omega arith)) (append-nil (take 508 bs ++ le 4 (fnv1a (take 508 bs))))
+
+-- the body's test is of the named bytes, the zeros and the number
+pub body-parts : (k n : ℕ) (named bs : List ℕ) → length named ≡ n → n ≤ 504 → 508 ≤ length bs
+    → bodyRight k named bs
+    ≡ (sameList (take n bs) named && sameList (take (504 - n) (drop n bs)) (replicate (504 - n) 0) && sameList (take 4 (drop 504 bs)) (le 4 k))
+unfolding bodyRight numbered
+body-parts k n named bs l h m =
+    let first : List ℕ = take n bs in
+    let rest : List ℕ = take (504 - n) (drop n bs) in
+    let zeros : List ℕ = replicate (504 - n) 0 in
+    let number : List ℕ = take 4 (drop 504 bs) in
+    let s : 504 ≡ n + (504 - n) = omega arith in
+    let split : take 508 bs ≡ first ++ rest ++ number =
+    take-add 504 4 bs ∙ ap (λ (r : List ℕ). r ++ number) (ap (λ (j : ℕ). take j bs) s ∙ take-add n (504 - n) bs) in
+    let named-long : length first ≡ length named = length-take-le n bs (omega arith) ∙ sym l in
+    let zeros-long : length rest ≡ length zeros = length-part n (504 - n) bs (omega arith) ∙ sym (length-replicate (504 - n) 0) in
+    rw (split, l)
+    (same-append (first ++ rest) (named ++ zeros) number (le 4 k) (simp length-append (ap₂ _+_ named-long zeros-long)) ∙
+    ap (λ (b : Bool). b && sameList number (le 4 k)) (same-append first named rest zeros named-long))
+
+-- a body whose first byte is its kind
+body-kind : (k kind end : ℕ) (rest bs : List ℕ) → 1 ≤ end → end ≤ 504 → length rest ≡ end - 1 → length bs ≡ 512
+    → bodyRight k (le 1 kind ++ rest) bs
+    ≡ (sameList (take 1 bs) (le 1 kind) && sameList (take (end - 1) (drop 1 bs)) rest && sameList (take (504 - end) (drop end bs)) (replicate (504 - end) 0) && sameList (take 4 (drop 504 bs)) (le 4 k))
+body-kind k kind end rest bs o h l m =
+    let s : end ≡ 1 + (end - 1) = omega arith in
+    let split : take end bs ≡ take 1 bs ++ take (end - 1) (drop 1 bs) = ap (λ (j : ℕ). take j bs) s ∙ take-add 1 (end - 1) bs in
+    let one : length (take 1 bs) ≡ length (le 1 kind) = length-take-le 1 bs (omega arith) ∙ sym (length-le 1 kind) in
+    body-parts k end (le 1 kind ++ rest) bs (omega (arith, length-append (le 1 kind) rest, length-le 1 kind)) h (omega arith) ∙
+    rw (split, same-append (take 1 bs) (le 1 kind) (take (end - 1) (drop 1 bs)) rest one)
+
+-- what `body_right` tests
+pub body-frame : (k kind end : ℕ) (bs : List ℕ) → AllBytes bs → length bs ≡ 512 → 1 ≤ end → end ≤ 504 → kind < 2 ^ 8 → k < 2 ^ 32
+    → bodyRight k (le 1 kind ++ take (end - 1) (drop 1 bs)) bs
+    ≡ (eqb (getD bs 0 0) kind && sameList (take (504 - end) (drop end bs)) (replicate (504 - end) 0) && eqb (field bs 504 4) k)
+body-frame k kind end bs b l o h kf nf =
+    body-kind k kind end (take (end - 1) (drop 1 bs)) bs o h (length-part 1 (end - 1) bs (omega arith)) l ∙
+    rw (same-field bs 0 1 kind b (omega arith) kf, field-byte bs 0 (omega arith), list-same, same-field bs 504 4 k b (omega arith) nf, and-true)
+
+-- a caller that has tested its own bytes is left with the frame
+pub body-rest : (k kind end : ℕ) (rest bs : List ℕ) → length bs ≡ 512 → 1 ≤ end → end ≤ 504 → length rest ≡ end - 1
+    → bodyRight k (le 1 kind ++ rest) bs
+    ≡ (sameList (take (end - 1) (drop 1 bs)) rest && bodyRight k (le 1 kind ++ take (end - 1) (drop 1 bs)) bs)
+body-rest k kind end rest bs l o h m =
+    let part : List ℕ = take (end - 1) (drop 1 bs) in
+    rw (body-kind k kind end rest bs o h m l, body-kind k kind end part bs o h (length-part 1 (end - 1) bs (omega arith)) l, list-same part)
+    (swap (sameList (take 1 bs) (le 1 kind)) (sameList part rest) _ _)
+  where
+    swap : (a b c d : Bool) → (a && b && c && d) ≡ (b && (a && true && c && d))
+    swap true true c d = refl
+    swap true false c d = refl
+    swap false true c d = refl
+    swap false false c d = refl
+
+-- a whole block
+
+pub length-numbered : (k : ℕ) (named : List ℕ) → length named ≤ 504 → length (numbered k named) ≡ 508
+unfolding numbered
+length-numbered k named h = simp (length-append, length-replicate, length-le) (omega arith)
+
+pub length-sealed : (bs : List ℕ) → length bs ≡ 508 → length (sealed bs) ≡ 512
+unfolding sealed
+length-sealed bs l = simp (length-append, length-le) (omega arith)
+
+take-sealed : (bs : List ℕ) → length bs ≡ 508 → take 508 (sealed bs) ≡ bs
+unfolding sealed
+take-sealed bs l = take-at bs (le 4 (fnv1a bs)) 508 l
+
+pub checksum-sealed : (bs : List ℕ) → length bs ≡ 508 → checksumRight (sealed bs) ≡ true
+unfolding checksumRight
+checksum-sealed bs l = rw (take-sealed bs l) (list-same (sealed bs))
+
+pub body-sealed : (k : ℕ) (named : List ℕ) → length named ≤ 504 → bodyRight k named (sealed (numbered k named)) ≡ true
+unfolding bodyRight
+body-sealed k named h = rw (take-sealed (numbered k named) (length-numbered k named h)) (list-same (numbered k named))
+
+pub block-named : (k : ℕ) (named : List ℕ) → take (length named) (sealed (numbered k named)) ≡ named
+unfolding sealed numbered
+block-named k named = simp append-assoc (take-append-seam named _)
+
+-- the numbers of a block are those of its named bytes
+
+pub field-named : (k : ℕ) (named : List ℕ) (i w : ℕ) → i + w ≤ length named → field (sealed (numbered k named)) i w ≡ field named i w
+field-named k named i w h = sym (field-take (sealed (numbered k named)) (length named) i w h) ∙ ap (λ (bs : List ℕ). field bs i w) (block-named k named)
+
+pub fields-named : (k : ℕ) (named : List ℕ) (i w n : ℕ) → i + w * n ≤ length named → fields (sealed (numbered k named)) i w n ≡ fields named i w n
+fields-named k named i w n h = sym (fields-take (sealed (numbered k named)) (length named) i w n h) ∙ ap (λ (bs : List ℕ). fields bs i w n) (block-named k named)
+
+-- the two tests together: the block is the one with these named bytes
+pub block-is : (k : ℕ) (named bs : List ℕ) → checksumRight bs ≡ true → bodyRight k named bs ≡ true → bs ≡ sealed (numbered k named)
+unfolding checksumRight bodyRight
+block-is k named bs c b = same-list bs (sealed (take 508 bs)) c ∙ ap sealed (same-list (take 508 bs) (numbered k named) b)
+
+-- the lowest place at which a test fails
+
+pub lowest-nowhere : (f : ℕ → Bool) (a n : ℕ) → lowestFrom f a n ≡ Nowhere → (k : ℕ) → a ≤ k → k < a + n → f k ≡ true
+unfolding lowestFrom
+lowest-nowhere f a zero e k h l = absurd (omega arith)
+lowest-nowhere f a (suc n) e k h l = go (f a) refl e (lowest-nowhere f (suc a) n)
+  where
+    go : (b : Bool) → f a ≡ b → cond b (lowestFrom f (suc a) n) (At a) ≡ Nowhere
+        → (lowestFrom f (suc a) n ≡ Nowhere → (k : ℕ) → suc a ≤ k → k < suc a + n → f k ≡ true) → f k ≡ true
+    go true p q ih = by-cases (ℕ-discrete k a) (λ s. rw s p) (λ s. ih q k (omega arith) (omega arith))
+    go false p q ih = let z : _≡_ {A = ℕ} 0 1 = cc in absurd (omega arith)
+
+pub nowhere-lowest : (f : ℕ → Bool) (a n : ℕ) → ((k : ℕ) → a ≤ k → k < a + n → f k ≡ true) → lowestFrom f a n ≡ Nowhere
+unfolding lowestFrom
+nowhere-lowest f a zero h = refl
+nowhere-lowest f a (suc n) h = rw (h a (omega arith) (omega arith)) (nowhere-lowest f (suc a) n (λ k l m. h k (omega arith) (omega arith)))
+
+pub lowest-at : (f : ℕ → Bool) (a n k : ℕ) → a ≤ k → k < a + n → ((i : ℕ) → a ≤ i → i < k → f i ≡ true) → f k ≡ false → lowestFrom f a n ≡ At k
+unfolding lowestFrom
+lowest-at f a zero k h l t e = absurd (omega arith)
+lowest-at f a (suc n) k h l t e =
+    by-cases (ℕ-discrete a k) (λ s. rw (s, e))
+    (λ s. rw (t a (omega arith) (omega arith)) (lowest-at f (suc a) n k (omega arith) (omega arith) (λ i j m. t i (omega arith) m) e))

@@ -1,0 +1,45 @@
+-- `block::put_u64` meets its contract: its low half and then its high half are stored.
+-- Assumes nothing.
+use native.Mathlib.Omega.{arith}
+use borrow.Author.Needs.{needs}
+use Rattle.block.proofs.Bytes.{put-halves}
+use Rattle.block.proofs.put_u64.Statement.{statement}
+use Rattle.block.proofs.put_u64.Tie as tie
+
+cast-put-u32 : tie.Need-cast-put-u32
+cast-put-u32 c = search needs
+
+put-u32-requires : tie.Need-put-u32-requires
+put-u32-requires c κs = search needs
+
+add-put-u32 : tie.Need-add-put-u32
+add-put-u32 c = search needs
+
+cast-put-u32-2 : tie.Need-cast-put-u32-2
+cast-put-u32-2 c = search needs
+
+put-u32-requires-2 : tie.Need-put-u32-requires-2
+put-u32-requires-2 c κs = search needs
+
+same-length : tie.Need-same-length
+same-length c = search needs
+
+returns : tie.Need-returns
+returns c =
+    let later = c .before .before in
+    let first = later .before .before .before .before in
+    let args = first .before .before .before .args in
+    put-halves 4 (args .bytes .now) (first .put-u32 .last .0) (later .put-u322 .last .0) (args .at) (args .v) (omega arith)
+    (first .put-u32 .ensures) (later .put-u322 .ensures)
+
+pub put-u64-spec : {M : Type 1} → statement M
+put-u64-spec =
+    tie.close
+    (tie.spec
+    cast-put-u32
+    put-u32-requires
+    add-put-u32
+    cast-put-u32-2
+    put-u32-requires-2
+    same-length
+    returns)

@@ -1,0 +1,106 @@
+-- The walk's state for all lines at once, after some of the reads of a task: at its start, after one read more, and at its end.
+-- Assumes nothing.
+use Prim.Native.Nat.{ℕ, suc, _+_, _≤_, _<_, zero-le}
+use mathlib.Core.Path.{_≡_, refl, sym, ap, ap₂, subst, _∙_}
+use mathlib.Core.Bool.{Bool, true, false, _&&_, _||_, or-false}
+use mathlib.Core.Logic.{by-cases}
+use mathlib.Core.List.{List, []}
+use native.Mathlib.Omega.{arith}
+use native.Mathlib.Decide.{ℕ-discrete, decLt}
+use lib.Dec.{eqb, leb, ltb}
+use lib.ListN.{length, getD, set, take, drop, length-set}
+use lib.Seq.{getD-set-same, getD-set-other, drop-nil, take-length}
+use borrow.Author.Tests.{eq-eqb, ne-eqb, le-ltb}
+use Rattle.model.specs.Task.{Task, blockCount}
+use Rattle.model.specs.Lines.{lineOf, onLine, lastRead, firstRead, anyRead, sameBlock, blockAt, stateAfter, nextRead, useful}
+use Rattle.model.specs.declared.Line.{Line}
+use Rattle.model.specs.declared.Line.the-variants.{Empty, Held}
+use Rattle.model.proofs.Sets.{in-eight-above}
+use Rattle.model.proofs.LineStates.{never-empty, useful-beyond}
+use Rattle.model.proofs.ReadOrder.{allReads, edge, take-edge, drop-edge, edge-rises, edge-end, edge-suc, read-at}
+use Rattle.reuse.specs.Edges.{wordsAt, linesAt, EdgeSets}
+use Rattle.reuse.proofs.Edges.{eight-at}
+use Rattle.reuse.proofs.Walk.{Kept, retold, other, this}
+
+pub record Walked (t : Task) (p : ℕ) (held : List Line) (since : List ℕ) (sets : List ℕ) : Type 0 where
+  pub long-held : length held ≡ 512
+  pub long-since : length since ≡ 512
+  pub long : length sets ≡ 520
+  pub kept : (c : ℕ) → c < 512 → Kept (allReads t) (edge t) (onLine t c) p (getD held c Empty) (getD since c 0) (λ k. linesAt sets k c)
+
+-- read j of block b, of number m on this line; the edges from since[line] on get the line if it held m already
+pub walked-more : (t : Task) (i j b m line q : ℕ) (held : List Line) (since sets sets′ : List ℕ) → i < blockCount t → j < length (blockAt t i .reads)
+    → b ≡ suc i → getD (blockAt t i .reads) j 0 ≡ m → line < 512 → line ≡ lineOf t m → q ≡ suc (edge t i + j) → length sets′ ≡ 520
+    → ((k d : ℕ) → k < 65 → linesAt sets′ k d
+    ≡ (linesAt sets k d || eqb d line && (sameBlock (getD held line Empty) (Held m) && (leb (getD since line 0) k && ltb k b))))
+    → Walked t (edge t i + j) held since sets → Walked t q (set held line (Held m)) (set since line b) sets′
+unfolding onLine
+walked-more t i j b m line q held since sets sets′ hi hj eb em hl at eq long added w =
+    rw eq
+    (record {
+      long-held = length-set held line _ ∙ w .long-held;
+      long-since = length-set since line _ ∙ w .long-since;
+      long = long;
+      kept = λ c h. by-cases (ℕ-discrete c line) (λ e. subst KeptAt (sym e) on-it) (λ n. off-it c h n);
+    })
+  where
+    inside : edge t i + j < length (allReads t)
+    inside = omega (arith, edge-rises t (suc i) (blockCount t) hi, edge-suc t i hi, edge-end t)
+
+    before : (k : ℕ) → k < b → edge t k ≤ edge t i + j
+    before k h = omega (arith, edge-rises t k i (omega arith))
+
+    after : (k : ℕ) → b ≤ k → edge t i + j < edge t k
+    after k h = omega (arith, edge-rises t (suc i) k (omega arith), edge-suc t i hi)
+
+    KeptAt : ℕ → Type 0
+    KeptAt c =
+        Kept (allReads t) (edge t) (onLine t c) (suc (edge t i + j)) (getD (set held line (Held m)) c Empty) (getD (set since line b) c 0)
+        (λ k. linesAt sets′ k c)
+
+    on-it : KeptAt line
+    on-it =
+        retold (allReads t) (edge t) (onLine t line) (getD-set-same held line (Held m) Empty (omega (arith, w .long-held)))
+        (getD-set-same since line b 0 (omega (arith, w .long-since)))
+        (λ k u. added k line u ∙ rw (eq-eqb line line refl) refl)
+        (this (allReads t) (edge t) (onLine t line) (edge t i + j) b m inside (read-at t i j hi hj ∙ em) before after (eq-eqb line (lineOf t m) at) (w .kept line hl))
+
+    off-it : (c : ℕ) → c < 512 → (c ≡ line → ⊥) → KeptAt c
+    off-it c h n =
+        retold (allReads t) (edge t) (onLine t c) (getD-set-other held line c (Held m) Empty n) (getD-set-other since line c b 0 n)
+        (λ k u. added k c u ∙ rw (ne-eqb c line n) (or-false (linesAt sets k c)))
+        (other (allReads t) (edge t) (onLine t c) (edge t i + j) b m inside (read-at t i j hi hj ∙ em) before after
+        (ne-eqb c (lineOf t m) (λ e. n (e ∙ sym at))) (w .kept c h))
+
+-- before the first read no line holds a number, and no line is known to be useful
+pub walked-none : (t : Task) (held : List Line) (since sets : List ℕ) → length held ≡ 512 → length since ≡ 512
+    → ((c : ℕ) → c < 512 → getD held c Empty ≡ Empty) → ((c : ℕ) → c < 512 → getD since c 0 ≡ 0) → EdgeSets 64 (λ k c. false) sets
+    → Walked t 0 held since sets
+unfolding lastRead anyRead firstRead
+walked-none t held since sets h s e z none =
+    record {
+      long-held = h;
+      long-since = s;
+      long = none .long;
+      kept =
+          λ c l.
+          record {
+            held = e c l;
+            last = λ k. rw (drop-nil, z c l) (sym (le-ltb k 0 zero-le));
+            useful = λ k u. rw drop-nil (none .lines k c (omega arith) ∙ sym (never-empty (lastRead (onLine t c) Empty (take (edge t k) (allReads t)))));
+          };
+    }
+
+-- after the last read the sets are those of the useful lines
+pub walked-all : (t : Task) (p : ℕ) (held : List Line) (since sets : List ℕ) → p ≡ length (allReads t) → blockCount t ≤ 64
+    → 1 ≤ t .lineCount → t .lineCount ≤ 512 → Walked t p held since sets → EdgeSets (blockCount t) (useful t) sets
+unfolding useful stateAfter nextRead
+walked-all t p held since sets e n least most w =
+    record {
+      long = w .long;
+      lines =
+          λ k c h.
+          by-cases (decLt c 512)
+          (λ l. w .kept c l .useful k (omega arith) ∙ rw (e, take-length, take-edge t k, drop-edge t k) refl)
+          (λ l. in-eight-above (wordsAt sets k) (eight-at sets k (w .long) (omega arith)) c (omega arith) ∙ sym (useful-beyond t least c (omega arith) k));
+    }

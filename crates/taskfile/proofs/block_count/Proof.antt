@@ -1,0 +1,26 @@
+-- `taskfile::block_count` meets its contract: it reads the header's number of basic blocks, which is as many as the task has.
+-- Assumes nothing.
+use mathlib.Core.Path.{_≡_, sym, _∙_}
+use native.Mathlib.Omega.{arith}
+use borrow.Author.Needs.{needs}
+use Rattle.taskfile.specs.File.{header, headerOf}
+use Rattle.taskfile.proofs.Accepted.{accepted, field-in-header, block-count}
+use Rattle.taskfile.proofs.block_count.Statement.{statement}
+use Rattle.taskfile.proofs.block_count.Tie as tie
+
+u16-at-requires : tie.Need-u16-at-requires
+u16-at-requires c κs = omega (arith, accepted (c .before .args .file .now) (c .before .pre) .long)
+
+cast-result : tie.Need-cast-result
+cast-result c = search needs
+
+returns : tie.Need-returns
+unfolding header headerOf
+returns c =
+    let file = c .before .before .args .file .now in
+    let r : c .u16-at .result ≡ header file .blocks = c .u16-at .ensures ∙ sym (field-in-header file 2 2 (omega arith)) in
+    let a = accepted file (c .before .before .pre) in
+    (r ∙ sym (block-count file), omega arith, omega arith)
+
+pub block-count-spec : {M : Type 1} → statement M
+block-count-spec = tie.close (tie.spec u16-at-requires cast-result returns)

@@ -1,0 +1,37 @@
+-- `taskfile::block_right` meets its contract: blocks 1 to N are of kind 2, and the others of kind 3.
+-- Assumes nothing.
+use mathlib.Core.Path.{_∙_}
+use native.Mathlib.Omega.{arith}
+use borrow.Author.Needs.{needs}
+use borrow.Author.Tests.{le-leb, lt-leb}
+use Rattle.taskfile.specs.File.{header, blockRight, basicOf, basicBytes, preempterOf, preempterBytes}
+use Rattle.taskfile.proofs.Frames.{length-in}
+use Rattle.taskfile.proofs.block_right.Statement.{statement}
+use Rattle.taskfile.proofs.block_right.Tie as tie
+
+block-at-requires : tie.Need-block-at-requires
+block-at-requires c κs = search needs
+
+cast-number : tie.Need-cast-number
+cast-number c = omega arith
+
+entry-right-requires : tie.Need-entry-right-requires
+entry-right-requires c κs = rw (c .before .block-at .ensures) (length-in _ _ (c .before .before .before .pre .1))
+
+entry-right-requires-2 : tie.Need-entry-right-requires-2
+entry-right-requires-2 c κs = rw (c .before .block-at .ensures) (length-in _ _ (c .before .before .before .pre .1))
+
+returns : tie.Need-returns
+unfolding blockRight basicOf basicBytes
+returns c =
+    let args = c .before .before .before .before .args in
+    c .entry-right .ensures ∙ rw (c .before .before .block-at .ensures, le-leb (args .k) (header (args .file .now) .blocks) (omega arith))
+
+returns-2 : tie.Need-returns-2
+unfolding blockRight preempterOf preempterBytes
+returns-2 c =
+    let args = c .before .before .before .before .args in
+    c .entry-right2 .ensures ∙ rw (c .before .before .block-at .ensures, lt-leb (args .k) (header (args .file .now) .blocks) (omega arith))
+
+pub block-right-spec : {M : Type 1} → statement M
+block-right-spec = tie.close (tie.spec block-at-requires cast-number entry-right-requires entry-right-requires-2 returns returns-2)

@@ -1,0 +1,35 @@
+-- `taskfile::in_range` meets its contract: each test decides its part.
+-- Assumes nothing.
+use borrow.Author.Tests.{le-leb, lt-leb}
+use Rattle.taskfile.proofs.in_range.Statement.{statement}
+use Rattle.taskfile.proofs.in_range.Tie as tie
+
+returns : tie.Need-returns
+returns c = rw (lt-leb 1 _ (c .if1 .taken))
+
+returns-2 : tie.Need-returns-2
+returns-2 c = rw (le-leb 1 _ (c .before .if1 .left), lt-leb _ 64 (c .if2 .taken))
+
+returns-3 : tie.Need-returns-3
+returns-3 c = rw (le-leb 1 _ (c .before .before .if1 .left), le-leb _ 64 (c .before .if2 .left), lt-leb _ 32 (c .if3 .taken))
+
+returns-4 : tie.Need-returns-4
+returns-4 c =
+    rw (
+      le-leb 1 _ (c .before .before .before .if1 .left),
+      le-leb _ 64 (c .before .before .if2 .left),
+      le-leb _ 32 (c .before .if3 .left),
+      lt-leb 1 _ (c .if4 .taken),
+    )
+
+returns-5 : tie.Need-returns-5
+returns-5 c =
+    rw (
+      le-leb 1 _ (c .before .before .before .if1 .left),
+      le-leb _ 64 (c .before .before .if2 .left),
+      le-leb _ 32 (c .before .if3 .left),
+      le-leb 1 _ (c .if4 .left),
+    )
+
+pub in-range-spec : {M : Type 1} → statement M
+in-range-spec = tie.close (tie.spec returns returns-2 returns-3 returns-4 returns-5)

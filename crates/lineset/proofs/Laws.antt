@@ -14,9 +14,9 @@ use lib.Count.{ones}
 use lib.Dec.{eqb}
 use lib.ListN.{length, getD, set, replicate, length-set, List·getD-eq-default}
 use lib.Seq.{getD-set-same, getD-set-other}
-use Rattle.model.specs.Sets.{countBelow, digit, inWords}
+use Rattle.model.specs.Sets.{Lines, countBelow, digit, words, inWords}
 use Rattle.model.proofs.Digits.{digit-of-zero, digit-or, digit-shl, count-add, count-agree, count-ones}
-use Rattle.model.proofs.Sets.{Eight, in-word, same-words}
+use Rattle.model.proofs.Sets.{Eight, in-word, same-words, words-in, words-agree}
 use Rattle.lineset.specs.Members.{members}
 use Rattle.lineset.specs.declared.LineSet.{LineSet}
 
@@ -114,3 +114,7 @@ count-word ws w h =
 pub same-set : (r s : LineSet) → Eight (r .words) → Eight (s .words)
     → ((d : ℕ) → d < 512 → members r d ≡ members s d) → r ≡ s
 same-set r s hr hs h = λ i. record { words = same-words hr hs h i }
+
+-- a set's words are those of its members
+pub set-words : (f : Lines) (s : LineSet) → Eight (s .words) → ((d : ℕ) → d < 512 → members s d ≡ f d) → s .words ≡ words f
+set-words f s e h = sym (words-in e) ∙ words-agree h

@@ -10,7 +10,8 @@ use native.Mathlib.Decide.{ℕ-discrete}
 use lib.Dec.{eqb, ltb}
 use lib.ListN.{length}
 use borrow.Author.Tests.{eqb-true, eqb-false, eq-eqb, ne-eqb, ltb-true, ltb-false, lt-ltb, le-ltb}
-use Rattle.model.specs.Lists.{Region, steps, every, rightPoint, wellFormed, sameList, among, risingLists, allLists}
+use Rattle.model.specs.Lists.{Region, steps, every, rightPoint, wellFormed, sameList, among, risingLists, allLists, lowest}
+use Rattle.model.specs.declared.Place.the-variants.{Nowhere}
 
 pub and-split : (a b : Bool) → (a && b) ≡ true → (a ≡ true) × (b ≡ true)
 and-split true b h = (refl, h)
@@ -96,3 +97,11 @@ rising n (suc k) a e (p ∷ ps) =
 -- the enumeration of all lists has every well-formed list and no other
 pub enumerated : (n : ℕ) → 0 < n → (ps : List ℕ) → among ps (allLists n) ≡ wellFormed n ps
 enumerated n h ps = rising n (n - 1) 0 (omega arith) ps
+
+-- where a test holds of each, none is the lowest at which it does not
+pub lowest-none : (f : ℕ → ℕ → Bool) (i : ℕ) (rs : List Region) → every f rs ≡ true → lowest f i rs ≡ Nowhere
+unfolding every lowest
+lowest-none f i [] h = refl
+lowest-none f i (r ∷ rs) h =
+    let both = and-split (f (r .from) (r .to)) (every f rs) h in
+    rw (both .0) (lowest-none f (suc i) rs (both .1))

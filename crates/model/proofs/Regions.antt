@@ -1,12 +1,19 @@
 -- Laws of regions and what lists of them cost.
 -- Assumes nothing.
-use Prim.Native.Nat.{ℕ, _+_, _*_}
+use Prim.Native.Nat.{ℕ, _+_, _*_, _≤_}
 use mathlib.Core.Path.{_≡_, refl, sym, ap, _∙_}
+use mathlib.Core.Bool.{true}
 use mathlib.Core.List.{List, [], _∷_}
 use native.Mathlib.Nat.{mul-zero, mul-add}
+use native.Mathlib.Omega.{arith}
+use lib.ListN.{length}
 use Rattle.model.specs.Task.{Task, blockCount}
-use Rattle.model.specs.Lists.{Region, regions, total}
-use Rattle.model.specs.Regions.{regionLines, regionCost, lines, cost}
+use Rattle.model.specs.Lists.{Region, steps, regions, total, rightPoint, wellFormed}
+use Rattle.model.specs.Regions.{loaded, regionLines, regionFits, regionCost, lines, cost, fits}
+use Rattle.model.specs.Answers.{pricing}
+use Rattle.model.specs.declared.Verdict.the-variants.{Accepted}
+use Rattle.model.proofs.Digits.{count-le}
+use Rattle.model.proofs.Lists.{lowest-none}
 
 scaled : (t : Task) (rs : List Region) → total (regionCost t) rs ≡ t .reload * total (regionLines t) rs
 unfolding total regionCost
@@ -18,3 +25,21 @@ scaled t (r ∷ rs) =
 -- a list's cost is R times its lines
 pub cost-of-lines : (t : Task) (ps : List ℕ) → cost t ps ≡ t .reload * lines t ps
 cost-of-lines t ps = scaled t (regions (blockCount t) 0 ps)
+
+lines-region : (t : Task) (a b : ℕ) → regionLines t a b ≤ 512
+unfolding regionLines
+lines-region t a b = count-le 512 (loaded t a b)
+
+lines-from : (t : Task) (n a : ℕ) (ps : List ℕ) → total (regionLines t) (regions n a ps) ≤ (length ps + 1) * 512
+unfolding total regions
+lines-from t n a [] = omega (arith, lines-region t a n)
+lines-from t n a (p ∷ ps) = omega (arith, lines-region t a p, lines-from t n p ps)
+
+-- a list's lines are at most 512 for each of its regions
+pub lines-most : (t : Task) (ps : List ℕ) → lines t ps ≤ (length ps + 1) * 512
+lines-most t ps = lines-from t (blockCount t) 0 ps
+
+-- pricing accepts a well-formed list that fits
+pub fits-accepted : (t : Task) (ps : List ℕ) → wellFormed (blockCount t) ps ≡ true → fits t ps ≡ true → pricing t ps ≡ Accepted
+fits-accepted t ps w f =
+    rw (lowest-none (rightPoint (blockCount t)) 0 (steps 0 ps) w, lowest-none (regionFits t) 0 (regions (blockCount t) 0 ps) f) refl

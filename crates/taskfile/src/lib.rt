@@ -156,24 +156,23 @@ fn block_right(file: &[u8], blocks: u16, k: usize) -> bool
     ensures { λ r. ⌜ r ≡ blockRight (now (file .entry)) k ⌝ }
 {
     let block = block_at(file, k);
-    let number = k as u32;
     if k <= blocks as usize {
-        entry_right(block, number, 2)
+        entry_right(block, k, 2)
     } else {
-        entry_right(block, number, 3)
+        entry_right(block, k, 3)
     }
 }
 
 // Whether a block is one of this number and kind, with at most 124 reads.
-fn entry_right(block: &[u8], number: u32, kind: u8) -> bool
-    requires { ⌜ length (now block) ≡ 512 ⌝ }
+fn entry_right(block: &[u8], number: usize, kind: u8) -> bool
+    requires { ⌜ (length (now block) ≡ 512) × (number < 2 ^ 32) ⌝ }
     ensures { λ r. ⌜ (let bs = now (block .entry) in r ≡ (leb (field bs 2 2) 124 && bodyRight number (entryBytes kind (field bs 4 4) (readsIn bs)) bs)) ⌝ }
 {
     let count = block::u16_at(block, 2) as usize;
     if count > 124 {
         return false;
     }
-    frame_right(block, number, kind, 8 + 4 * count)
+    frame_right(block, number as u32, kind, 8 + 4 * count)
 }
 
 // Whether a block has this number and kind, and zeros at byte 1 and from end on; bytes 2 to end - 1 are free.

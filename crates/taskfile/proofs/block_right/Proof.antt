@@ -12,14 +12,11 @@ use Rattle.taskfile.proofs.block_right.Tie as tie
 block-at-requires : tie.Need-block-at-requires
 block-at-requires c κs = search needs
 
-cast-number : tie.Need-cast-number
-cast-number c = omega arith
-
 entry-right-requires : tie.Need-entry-right-requires
-entry-right-requires c κs = rw (c .before .block-at .ensures) (length-in _ _ (c .before .before .before .pre .1))
+entry-right-requires c κs = (rw (c .before .block-at .ensures) (length-in _ _ (c .before .before .before .pre .1)), search needs)
 
 entry-right-requires-2 : tie.Need-entry-right-requires-2
-entry-right-requires-2 c κs = rw (c .before .block-at .ensures) (length-in _ _ (c .before .before .before .pre .1))
+entry-right-requires-2 c κs = (rw (c .before .block-at .ensures) (length-in _ _ (c .before .before .before .pre .1)), search needs)
 
 returns : tie.Need-returns
 unfolding blockRight basicOf basicBytes
@@ -34,4 +31,4 @@ returns-2 c =
     c .entry-right2 .ensures ∙ rw (c .before .before .block-at .ensures, lt-leb (args .k) (header (args .file .now) .blocks) (omega arith))
 
 pub block-right-spec : {M : Type 1} → statement M
-block-right-spec = tie.close (tie.spec block-at-requires cast-number entry-right-requires entry-right-requires-2 returns returns-2)
+block-right-spec = tie.close (tie.spec block-at-requires entry-right-requires entry-right-requires-2 returns returns-2)

@@ -15,6 +15,9 @@ cast-count c = search needs
 returns : tie.Need-returns
 returns c = rw (← c .before .u16-at .ensures, lt-leb _ 124 (c .if1 .taken))
 
+cast-frame-right : tie.Need-cast-frame-right
+cast-frame-right c = search needs
+
 mul-frame-right : tie.Need-mul-frame-right
 mul-frame-right c = search needs
 
@@ -31,7 +34,7 @@ returns-2 c =
     let known = count .before in
     let args = known .before .args in
     rw (
-      entry-bytes (args .block .now) (λ i h. known .shared-slice-known .given i .fits) (known .before .pre) (args .kind)
+      entry-bytes (args .block .now) (λ i h. known .shared-slice-known .given i .fits) (known .before .pre .0) (args .kind)
           (count .u16-at .result) (count .u16-at .ensures) few,
       ← count .u16-at .ensures,
       le-leb _ 124 few,
@@ -40,4 +43,4 @@ returns-2 c =
 
 pub entry-right-spec : {M : Type 1} → statement M
 entry-right-spec =
-    tie.close (tie.spec u16-at-requires cast-count returns mul-frame-right add-frame-right frame-right-requires returns-2)
+    tie.close (tie.spec u16-at-requires cast-count returns cast-frame-right mul-frame-right add-frame-right frame-right-requires returns-2)

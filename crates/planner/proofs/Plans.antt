@@ -1,0 +1,88 @@
+-- What a placement and its price make of a plan: demand 3 for the task whose regions the table holds.
+-- Assumes nothing.
+use Prim.Native.Nat.{ℕ, _-_, _≤_, _<_}
+use mathlib.Core.Path.{_≡_, refl, sym, ap, _∙_}
+use mathlib.Core.Bool.{true, false}
+use mathlib.Core.Logic.{inl, inr}
+use mathlib.Core.List.{List, _++_}
+use native.Mathlib.Omega.{arith}
+use lib.ListN.{length, take, drop, replicate, take-append-drop, length-drop, length-replicate, length-take}
+use Rattle.model.specs.Task.{Task, blockCount}
+use Rattle.model.specs.Regions.{regionFits, regionCost, lines, cost, BestList, NoPlacementFits}
+use Rattle.model.specs.Answers.{pricing, onAccepted}
+use Rattle.model.specs.Planning.{planFor, noPlan, Planned}
+use Rattle.model.specs.declared.Refusal.{Refusal}
+use Rattle.model.specs.declared.Refusal.the-variants.{NoPlacement}
+use Rattle.model.specs.declared.Verdict.the-variants.{Accepted, Refused}
+use Rattle.model.proofs.Regions.{fits-accepted, lines-most}
+use Rattle.placement.specs.Table.{Holds, Placed}
+use Rattle.placement.specs.declared.Placement.{Placement}
+use Rattle.regions.specs.Answers.{Prices}
+use Rattle.regions.specs.declared.Price.{Price}
+
+pub never : {x : Refusal} → Accepted ≡ Refused x → ⊥
+never e = let z : _≡_ {A = ℕ} 0 1 = cc in omega arith
+
+pub points-long : {table : List ℕ} {n : ℕ} (r : Placement) → n ≤ 64 → Placed table n r → length (r .points) ≡ 64
+points-long r most placed =
+    omega (arith, placed .fewer, length-drop (r .count) (r .points), ap length (placed .beyond), length-replicate {A = ℕ} (64 - r .count) 0)
+
+module _ (t : Task) (table : List ℕ) (r : Placement) (holds : Holds table (blockCount t) (regionFits t) (regionCost t))
+    (placed : Placed table (blockCount t) r) where
+  -- no list is found: none fits
+  pub none-planned : r .found ≡ false → Planned t (Refused NoPlacement) noPlan
+  none-planned f =
+      let none : NoPlacementFits t = placed .refuses (regionFits t) (regionCost t) holds f in
+      record {
+        answers = inr refl;
+        best = λ e. absurd (never (sym e));
+        follows = λ e. absurd (never (sym e));
+        none-fits = λ e. none;
+        exactly = λ e. refl;
+        empty = λ e. refl;
+      }
+
+  module _ (most : blockCount t ≤ 64) (f : r .found ≡ true) (price : Price) (prices : Prices t (take (r .count) (r .points)) price) where
+    best : BestList t (take (r .count) (r .points))
+    best = placed .least (regionFits t) (regionCost t) holds f
+
+    accepted : pricing t (take (r .count) (r .points)) ≡ Accepted
+    accepted = fits-accepted t (take (r .count) (r .points)) (best .well-formed) (best .fits)
+
+    lines-are : price .lines ≡ lines t (take (r .count) (r .points))
+    lines-are = prices .lines ∙ rw accepted refl
+
+    cost-is : price .cost ≡ cost t (take (r .count) (r .points))
+    cost-is = prices .cost ∙ rw accepted refl
+
+    count-is : length (take (r .count) (r .points)) ≡ r .count
+    count-is = omega (arith, placed .fewer, points-long r most placed, length-take (r .count) (r .points))
+
+    pub lines-fit : price .lines < 65536
+    lines-fit = omega (arith, placed .fewer, lines-are, lines-most t (take (r .count) (r .points)), count-is)
+
+    points-are : r .points ≡ take (r .count) (r .points) ++ replicate (64 - length (take (r .count) (r .points))) 0
+    points-are =
+        sym (take-append-drop (r .count) (r .points)) ∙ ap (λ (l : List ℕ). take (r .count) (r .points) ++ l) (placed .beyond) ∙
+        ap (λ (n : ℕ). take (r .count) (r .points) ++ replicate (64 - n) 0) (sym count-is)
+
+    pub list-planned : Planned t Accepted (record { blocks = blockCount t; id = t .id; count = r .count; lines = price .lines; cost = price .cost; points = r .points })
+    unfolding planFor
+    list-planned =
+        record {
+          answers = inl refl;
+          best = λ e. best;
+          follows =
+              λ e i.
+              record {
+                blocks = blockCount t;
+                id = t .id;
+                count = sym count-is i;
+                lines = lines-are i;
+                cost = cost-is i;
+                points = points-are i;
+              };
+          none-fits = λ e. absurd (never e);
+          exactly = λ none. absurd (none (take (r .count) (r .points)) (best .well-formed) (best .fits));
+          empty = λ e. absurd (never e);
+        }

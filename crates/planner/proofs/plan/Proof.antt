@@ -1,0 +1,52 @@
+-- `planner::plan` meets its contract, answer by answer.
+-- Assumes nothing.
+use mathlib.Core.Path.{sym, _∙_}
+use Rattle.planner.proofs.Plans.{never}
+use borrow.Author.Needs.{needs}
+use Rattle.planner.proofs.plan.Statement.{statement}
+use Rattle.planner.proofs.plan.Tie as tie
+
+check-requires : tie.Need-check-requires
+check-requires c κs = search needs
+
+enum-told : tie.Need-enum-told
+enum-told c = search needs
+
+enum-told-2 : tie.Need-enum-told-2
+enum-told-2 c = search needs
+
+no-plan-requires : tie.Need-no-plan-requires
+no-plan-requires c κs = search needs
+
+returns : tie.Need-returns
+returns c =
+    let told = c .before .enum-told2 .given .1 in
+    let check = c .before .before .before .check .ensures in
+    record {
+      refused = λ x e. (c .no-plan .ensures .0 ∙ check ∙ e, c .no-plan .ensures .1);
+      planned = λ e. absurd (never (sym e ∙ sym check ∙ told));
+    }
+
+all-lines-requires : tie.Need-all-lines-requires
+all-lines-requires c κs = sym (c .before .before .check .ensures) ∙ c .enum-told .given .1
+
+plan-regions-requires : tie.Need-plan-regions-requires
+plan-regions-requires c κs = search needs
+
+returns-2 : tie.Need-returns-2
+returns-2 c =
+    let accepted = sym (c .before .before .before .before .before .before .before .before .check .ensures) ∙ c .before .before .before .before .before .before .enum-told .given .1 in
+    record { refused = λ x e. absurd (never (sym accepted ∙ e)); planned = λ e. c .plan-regions .ensures }
+
+pub plan-spec : {M : Type 1} → statement M
+plan-spec =
+    tie.close
+    (tie.spec
+    check-requires
+    enum-told
+    enum-told-2
+    no-plan-requires
+    returns
+    all-lines-requires
+    plan-regions-requires
+    returns-2)

@@ -1,0 +1,48 @@
+-- `planner::price` meets its contract, answer by answer.
+-- Assumes nothing.
+use mathlib.Core.Path.{_≡_, refl, sym, ap, _∙_}
+use native.Mathlib.Omega.{arith}
+use borrow.Author.Tests.{lt-ltb, le-ltb, le-leb, lt-leb}
+use Rattle.model.specs.Task.{blockCount}
+use Rattle.taskfile.specs.File.{taskOf}
+use Rattle.planner.specs.Calls.{priceVerdict, priceLines, priceCost}
+use borrow.Author.Needs.{needs}
+use Rattle.planner.proofs.price.Statement.{statement}
+use Rattle.planner.proofs.price.Tie as tie
+
+check-requires : tie.Need-check-requires
+check-requires c κs = search needs
+
+enum-told : tie.Need-enum-told
+enum-told c = search needs
+
+enum-told-2 : tie.Need-enum-told-2
+enum-told-2 c = search needs
+
+returns : tie.Need-returns
+unfolding priceVerdict priceLines priceCost
+returns c = let check = c .before .before .check in rw (← check .ensures, c .enum-told2 .given .1) (refl, refl, refl)
+
+all-lines-requires : tie.Need-all-lines-requires
+all-lines-requires c κs = sym (c .before .before .check .ensures) ∙ c .enum-told .given .1
+
+price-list-requires : tie.Need-price-list-requires
+price-list-requires c κs = search needs
+
+returns-2 : tie.Need-returns-2
+unfolding priceVerdict priceLines priceCost
+returns-2 c =
+    let accepted = sym (c .before .before .before .before .before .before .before .before .check .ensures) ∙ c .before .before .before .before .before .before .enum-told .given .1 in
+    rw accepted (c .price-list .ensures .verdict, c .price-list .ensures .lines, c .price-list .ensures .cost)
+
+pub price-spec : {M : Type 1} → statement M
+price-spec =
+    tie.close
+    (tie.spec
+    check-requires
+    enum-told
+    enum-told-2
+    returns
+    all-lines-requires
+    price-list-requires
+    returns-2)

@@ -1,0 +1,55 @@
+-- What each public call answers to any bytes and numbers (document 01, "Stretches and price" and "Numbers given to the build"): refusals 1 to
+-- 5 of the file first, then 7, then 6 or 8. Assumes nothing.
+use Prim.Native.Nat.{ℕ}
+use mathlib.Core.Path.{_≡_}
+use mathlib.Core.Bool.{false, cond, _&&_}
+use mathlib.Core.List.{List}
+use lib.Dec.{leb, ltb}
+use Rattle.model.specs.Sets.{Lines, words}
+use Rattle.model.specs.Task.{blockCount}
+use Rattle.model.specs.Lines.{useful}
+use Rattle.model.specs.Regions.{loaded, regionLength, lines, cost}
+use Rattle.model.specs.Answers.{onAccepted, andThen, pricing}
+use Rattle.model.specs.Planning.{Planned, noPlan}
+use Rattle.model.specs.declared.Refusal.{Refusal}
+use Rattle.model.specs.declared.Refusal.the-variants.{Argument}
+use Rattle.model.specs.declared.Verdict.{Verdict}
+use Rattle.model.specs.declared.Verdict.the-variants.{Accepted, Refused}
+use Rattle.model.specs.declared.Plan.{Plan}
+use Rattle.taskfile.specs.File.{verdict, taskOf}
+
+-- the words of a set that a refusal carries
+abbrev pub noWords : List ℕ
+noWords = words (λ c. false)
+
+-- U(k): 7 at 0 for k above N
+unfoldable pub usefulVerdict : List ℕ → ℕ → Verdict
+usefulVerdict file k = andThen (verdict file) (cond (leb k (blockCount (taskOf file))) Accepted (Refused (Argument 0)))
+
+unfoldable pub usefulWords : List ℕ → ℕ → List ℕ
+usefulWords file k = onAccepted (usefulVerdict file k) (words (useful (taskOf file) k)) noWords
+
+-- a region (a, b): 7 at 0 unless 0 ≤ a < b ≤ N
+unfoldable pub regionVerdict : List ℕ → ℕ → ℕ → Verdict
+regionVerdict file a b = andThen (verdict file) (cond (ltb a b && leb b (blockCount (taskOf file))) Accepted (Refused (Argument 0)))
+
+unfoldable pub loadedWords : List ℕ → ℕ → ℕ → List ℕ
+loadedWords file a b = onAccepted (regionVerdict file a b) (words (loaded (taskOf file) a b)) noWords
+
+unfoldable pub lengthOf : List ℕ → ℕ → ℕ → ℕ
+lengthOf file a b = onAccepted (regionVerdict file a b) (regionLength (taskOf file) a b) 0
+
+-- pricing a list: 7 at its index, 8 at its region
+unfoldable pub priceVerdict : List ℕ → List ℕ → Verdict
+priceVerdict file ps = andThen (verdict file) (pricing (taskOf file) ps)
+
+unfoldable pub priceLines : List ℕ → List ℕ → ℕ
+priceLines file ps = onAccepted (priceVerdict file ps) (lines (taskOf file) ps) 0
+
+unfoldable pub priceCost : List ℕ → List ℕ → ℕ
+priceCost file ps = onAccepted (priceVerdict file ps) (cost (taskOf file) ps) 0
+
+-- planning: the file's refusal, or what planning answers for its task
+pub record PlanAnswer (file : List ℕ) (v : Verdict) (p : Plan) : Type 0 where
+  pub refused : (x : Refusal) → verdict file ≡ Refused x → (v ≡ Refused x) × (p ≡ noPlan)
+  pub planned : verdict file ≡ Accepted → Planned (taskOf file) v p

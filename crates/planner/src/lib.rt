@@ -1,0 +1,202 @@
+// The planner's calls. Each takes any bytes and numbers, and answers a value or a refusal.
+ghost use mathlib.Core.Path.{_≡_};
+ghost use lib.ListN.{length, take};
+ghost use Prim.Native.Nat.{_<_, _≤_};
+ghost use Rattle.model.specs.Task.{blockCount};
+ghost use Rattle.model.specs.Planning.{Planned, noPlan};
+ghost use Rattle.taskfile.specs.File.{verdict, taskOf};
+ghost use Rattle.regions.specs.Ready.{Ready};
+ghost use Rattle.planner.specs.Calls.{noWords, usefulVerdict, usefulWords, regionVerdict, loadedWords, lengthOf, priceVerdict, priceLines, priceCost, PlanAnswer};
+use lineset::LineSet;
+use model::Plan;
+use model::Refusal;
+use model::Verdict;
+use placement::Placement;
+use regions::Price;
+
+// The useful lines at an edge.
+pub struct UsefulLines {
+    pub verdict: Verdict,
+    pub lines: LineSet,
+}
+
+// A region's loaded lines and its length.
+pub struct RegionLines {
+    pub verdict: Verdict,
+    pub loaded: LineSet,
+    pub length: u64,
+}
+
+// A plan of least cost.
+pub struct LeastPlan {
+    pub verdict: Verdict,
+    pub plan: Plan,
+}
+
+// The useful lines of each edge, the accessed useful lines of each block, and the evicted lines.
+struct AllLines {
+    useful: [u64; 520],
+    accessed: [u64; 520],
+    evicted: LineSet,
+}
+
+// U(k) of a file.
+pub fn useful(file: &[u8], k: usize) -> UsefulLines
+    ensures { λ r. ⌜ (r .verdict ≡ usefulVerdict (now (file .entry)) k) × (r .lines .words ≡ usefulWords (now (file .entry)) k) ⌝ }
+{
+    let checked = taskfile::check(file);
+    let Verdict::Accepted = checked else {
+        return UsefulLines {
+            verdict: checked,
+            lines: LineSet::empty(),
+        };
+    };
+    if taskfile::block_count(file) < k {
+        return UsefulLines {
+            verdict: Verdict::Refused(Refusal::Argument(0)),
+            lines: LineSet::empty(),
+        };
+    }
+    let mut sets = [0u64; 520];
+    reuse::useful_lines(file, &mut sets);
+    UsefulLines {
+        verdict: Verdict::Accepted,
+        lines: regions::lines_at(&sets, k),
+    }
+}
+
+// The loaded lines and the length of a region (a, b).
+pub fn region(file: &[u8], a: usize, b: usize) -> RegionLines
+    ensures { λ r. ⌜ (r .verdict ≡ regionVerdict (now (file .entry)) a b) × (r .loaded .words ≡ loadedWords (now (file .entry)) a b) × (r .length ≡ lengthOf (now (file .entry)) a b) ⌝ }
+{
+    let checked = taskfile::check(file);
+    let Verdict::Accepted = checked else {
+        return no_region(checked);
+    };
+    if b <= a {
+        return no_region(Verdict::Refused(Refusal::Argument(0)));
+    }
+    if taskfile::block_count(file) < b {
+        return no_region(Verdict::Refused(Refusal::Argument(0)));
+    }
+    let all = all_lines(file);
+    let useful = all.useful;
+    let accessed = all.accessed;
+    let found = regions::region_between(file, &useful, &accessed, all.evicted, a, b);
+    let loaded = found.loaded;
+    RegionLines {
+        verdict: Verdict::Accepted,
+        loaded,
+        length: found.length,
+    }
+}
+
+// The lines of an accepted file.
+fn all_lines(file: &[u8]) -> AllLines
+    requires { ⌜ verdict (now file) ≡ Verdict.Accepted ⌝ }
+    ensures { λ r. ⌜ Ready (now (file .entry)) (r .useful) (r .accessed) (r .evicted) ⌝ }
+{
+    let mut useful = [0u64; 520];
+    let mut accessed = [0u64; 520];
+    reuse::useful_lines(file, &mut useful);
+    reuse::accessed_useful_lines(file, &useful, &mut accessed);
+    let evicted = reuse::evicted_lines(file);
+    AllLines {
+        useful,
+        accessed,
+        evicted,
+    }
+}
+
+// What is answered of a region that is refused.
+fn no_region(verdict: Verdict) -> RegionLines
+    ensures { λ r. ⌜ (r .verdict ≡ verdict) × (r .loaded .words ≡ noWords) × (r .length ≡ 0) ⌝ }
+{
+    RegionLines {
+        verdict,
+        loaded: LineSet::empty(),
+        length: 0,
+    }
+}
+
+// The lines and the cost of a list of points.
+pub fn price(file: &[u8], points: &[u16]) -> Price
+    ensures { λ r. ⌜ (r .verdict ≡ priceVerdict (now (file .entry)) (now (points .entry))) × (r .lines ≡ priceLines (now (file .entry)) (now (points .entry))) × (r .cost ≡ priceCost (now (file .entry)) (now (points .entry))) ⌝ }
+{
+    let checked = taskfile::check(file);
+    let Verdict::Accepted = checked else {
+        return Price {
+            verdict: checked,
+            lines: 0,
+            cost: 0,
+        };
+    };
+    let all = all_lines(file);
+    let useful = all.useful;
+    let accessed = all.accessed;
+    regions::price_list(file, &useful, &accessed, all.evicted, points)
+}
+
+// A plan whose list fits and costs least.
+pub fn plan(file: &[u8]) -> LeastPlan
+    ensures { λ r. ⌜ PlanAnswer (now (file .entry)) (r .verdict) (r .plan) ⌝ }
+{
+    let checked = taskfile::check(file);
+    let Verdict::Accepted = checked else {
+        return no_plan(checked);
+    };
+    let all = all_lines(file);
+    let useful = all.useful;
+    let accessed = all.accessed;
+    plan_regions(file, &useful, &accessed, all.evicted)
+}
+
+// The plan of an accepted file, from the lines of its edges.
+fn plan_regions(
+    file: &[u8],
+    useful: &[u64; 520],
+    accessed: &[u64; 520],
+    evicted: LineSet,
+) -> LeastPlan
+    requires { ⌜ Ready (now file) (now useful) (now accessed) evicted ⌝ }
+    ensures { λ r. ⌜ Planned (taskOf (now (file .entry))) (r .verdict) (r .plan) ⌝ }
+{
+    let mut table = [0u64; 4096];
+    regions::fill_table(file, useful, accessed, evicted, &mut table);
+    let n = taskfile::block_count(file);
+    let placed = placement::place(&table, n);
+    let count = placed.count;
+    let points = placed.points;
+    if !placed.found {
+        return no_plan(Verdict::Refused(Refusal::NoPlacement));
+    }
+    let price = regions::price_list(file, useful, accessed, evicted, &points[..count]);
+    LeastPlan {
+        verdict: Verdict::Accepted,
+        plan: Plan {
+            blocks: n as u16,
+            id: taskfile::id(file),
+            count: count as u16,
+            lines: price.lines as u16,
+            cost: price.cost,
+            points,
+        },
+    }
+}
+
+// What is answered where no plan is.
+fn no_plan(verdict: Verdict) -> LeastPlan
+    ensures { λ r. ⌜ (r .verdict ≡ verdict) × (r .plan ≡ noPlan) ⌝ }
+{
+    LeastPlan {
+        verdict,
+        plan: Plan {
+            blocks: 0,
+            id: 0,
+            count: 0,
+            lines: 0,
+            cost: 0,
+            points: [0; 64],
+        },
+    }
+}

@@ -1,0 +1,88 @@
+-- `regions::region_of` meets its contract: the loaded lines are those in common, and the length is the time and a reload for each of at most 512 lines.
+-- Assumes nothing.
+use Prim.Native.Nat.{ℕ, _+_, _*_, _≤_}
+use mathlib.Core.Path.{_≡_, ap₂, _∙_}
+use mathlib.Core.Bool.{_&&_}
+use native.Mathlib.Omega.{arith}
+use borrow.Author.Needs.{needs}
+use Rattle.model.specs.Regions.{loaded, regionLines, regionLength}
+use Rattle.model.proofs.Sets.{size-agree}
+use Rattle.lineset.specs.Members.{members}
+use Rattle.taskfile.specs.File.{taskOf}
+use Rattle.regions.proofs.Widths.{few-lines, cost-le}
+use Rattle.regions.proofs.Runs.{few-blocks}
+use Rattle.regions.proofs.region_of.Statement.{statement}
+use Rattle.regions.proofs.region_of.Tie as tie
+
+lines-at-requires : tie.Need-lines-at-requires
+lines-at-requires c κs = (
+  c .before .pre .0 .1 .long,
+  omega (arith, few-blocks (c .before .args .file .now) (c .before .pre .0 .0), c .before .pre .1),
+)
+
+common-requires : tie.Need-common-requires
+common-requires c κs = search needs
+
+common-requires-2 : tie.Need-common-requires-2
+common-requires-2 c κs = search needs
+
+reload-requires : tie.Need-reload-requires
+reload-requires c κs = search needs
+
+cast-reloads : tie.Need-cast-reloads
+cast-reloads c = search needs
+
+size-requires : tie.Need-size-requires
+size-requires c κs = search needs
+
+cast-reloads-2 : tie.Need-cast-reloads-2
+cast-reloads-2 c = search needs
+
+-- the reloads of 512 lines
+reloads : (c : tie.After-size) → c .before .reload .result * c .size .result ≤ 4294967295 * 512
+reloads c =
+    cost-le 512 (omega arith) (few-lines (c .before .before .common2 .result) (c .size .ensures))
+
+mul-reloads : tie.Need-mul-reloads
+mul-reloads c = omega (arith, reloads c)
+
+add-length : tie.Need-add-length
+add-length c =
+    let start = c .before .before .before .before .before .before .before in
+    omega (arith, reloads (c .before), start .pre .1 .small, start .pre .1 .within, few-blocks (start .args .file .now) (start .pre .0 .0))
+
+returns : tie.Need-returns
+unfolding loaded regionLines regionLength
+returns c =
+    let sized = c .before in
+    let both = sized .before .before in
+    let start = both .before .before .before .before in
+    let t = taskOf (start .args .file .now) in
+    let run = start .args .run in
+    let spans = start .pre .1 in
+    let lines : (d : ℕ) → members (both .common2 .result) d ≡ loaded t (run .from) (run .to) d =
+    λ d.
+    both .common2 .ensures d ∙
+    ap₂ _&&_
+    (both .before .common .ensures d ∙
+    ap₂ _&&_ (both .before .before .lines-at .ensures d ∙ start .pre .0 .1 .lines (run .from) d (omega arith)) (start .pre .0 .2 d))
+    (spans .lines d) in
+    record {
+      loaded = lines;
+      length = ap₂ _+_ (spans .time) (ap₂ _*_ (sized .before .reload .ensures) (sized .size .ensures ∙ size-agree (λ d _. lines d)));
+    }
+
+pub region-of-spec : {M : Type 1} → statement M
+region-of-spec =
+    tie.close
+    (tie.spec
+    lines-at-requires
+    common-requires
+    common-requires-2
+    reload-requires
+    cast-reloads
+    size-requires
+    cast-reloads-2
+    mul-reloads
+    add-length
+    returns)

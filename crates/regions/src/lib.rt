@@ -1,0 +1,263 @@
+// The regions of an accepted file: the loaded lines and the length of one, the table of all of them for a placement, and the price of
+// a list of points.
+ghost use mathlib.Core.Bool.{false};
+ghost use mathlib.Core.Path.{_≡_};
+ghost use Prim.Native.Nat.{ℕ, _+_, _*_, _^_, _<_, _≤_};
+ghost use lib.Dec.{leb};
+ghost use lib.ListN.{length, getD};
+ghost use Rattle.model.specs.Sets.{size};
+ghost use Rattle.model.specs.Task.{blockCount};
+ghost use Rattle.model.specs.Lists.{wrongPoint};
+ghost use Rattle.model.specs.Regions.{regionFits, regionCost};
+ghost use Rattle.lineset.specs.Members.{members};
+ghost use Rattle.placement.specs.Table.{entry, Holds};
+ghost use Rattle.taskfile.specs.File.{verdict, taskOf};
+ghost use Rattle.reuse.specs.Edges.{linesAt};
+ghost use Rattle.regions.specs.Ready.{Useful, Accessed, Evicted, Ready};
+ghost use Rattle.regions.specs.Answers.{Spans, Measures, Row, Prices};
+use lineset::LineSet;
+use model::Place;
+use model::Refusal;
+use model::Verdict;
+
+// A region's loaded lines and its length.
+pub struct Region {
+    pub loaded: LineSet,
+    pub length: u64,
+}
+
+// What pricing a list answers: its lines and cost, or zeros with a refusal.
+pub struct Price {
+    pub verdict: Verdict,
+    pub lines: u64,
+    pub cost: u64,
+}
+
+// The basic blocks after edge `from` up to edge `to`: their accessed useful lines, and the sum of their times.
+struct Run {
+    from: usize,
+    to: usize,
+    lines: LineSet,
+    time: u64,
+}
+
+// The set of edge k.
+pub fn lines_at(sets: &[u64; 520], k: usize) -> LineSet
+    requires { ⌜ (length (now sets) ≡ 520) × (k < 65) ⌝ }
+    ensures { λ r. ⌜ ((c : ℕ) → members r c ≡ linesAt (now (sets .entry)) k c) ⌝ }
+{
+    let mut words = [0u64; 8];
+    let mut w = 0;
+    while w < 8 {
+        words[w] = sets[k * 8 + w];
+        w += 1;
+    }
+    LineSet { words }
+}
+
+// The loaded lines and the length of the region from edge a to edge b.
+pub fn region_between(
+    file: &[u8],
+    useful: &[u64; 520],
+    accessed: &[u64; 520],
+    evicted: LineSet,
+    a: usize,
+    b: usize,
+) -> Region
+    requires { ⌜ Ready (now file) (now useful) (now accessed) evicted × (a < b) × (b ≤ blockCount (taskOf (now file))) ⌝ }
+    ensures { λ r. ⌜ Measures (taskOf (now (file .entry))) a b r ⌝ }
+{
+    let mut run = start(a);
+    while run.to < b {
+        run = longer(file, accessed, run);
+    }
+    region_of(file, useful, evicted, run)
+}
+
+// The entries of all regions, for a placement.
+pub fn fill_table(
+    file: &[u8],
+    useful: &[u64; 520],
+    accessed: &[u64; 520],
+    evicted: LineSet,
+    table: &mut [u64; 4096],
+)
+    requires { ⌜ Ready (now file) (now useful) (now accessed) evicted × (length (now table) ≡ 4096) ⌝ }
+    ensures { λ _. ⌜ length (now (table .exit)) ≡ 4096 ⌝ }
+    ensures { λ _. ⌜ Holds (now (table .exit)) (blockCount (taskOf (now (file .entry)))) (regionFits (taskOf (now (file .entry)))) (regionCost (taskOf (now (file .entry)))) ⌝ }
+{
+    let n = taskfile::block_count(file);
+    let mut a = 0;
+    while a < n {
+        fill_row(file, useful, accessed, evicted, a, table);
+        a += 1;
+    }
+}
+
+// The entries of the regions from edge a; the table is else as it was.
+fn fill_row(
+    file: &[u8],
+    useful: &[u64; 520],
+    accessed: &[u64; 520],
+    evicted: LineSet,
+    a: usize,
+    table: &mut [u64; 4096],
+)
+    requires { ⌜ Ready (now file) (now useful) (now accessed) evicted × (a < blockCount (taskOf (now file))) × (length (now table) ≡ 4096) ⌝ }
+    ensures { λ _. ⌜ Row (taskOf (now (file .entry))) a (blockCount (taskOf (now (file .entry)))) (now (table .entry)) (now (table .exit)) ⌝ }
+{
+    let n = taskfile::block_count(file);
+    let mut run = start(a);
+    while run.to < n {
+        let at = a * 64 + run.to;
+        run = longer(file, accessed, run);
+        table[at] = table_entry(file, region_of(file, useful, evicted, run));
+    }
+}
+
+// What stands in the table for a region: its cost, or NONE where its length is above the limit.
+fn table_entry(file: &[u8], region: Region) -> u64
+    requires { ⌜ verdict (now file) ≡ Verdict.Accepted ⌝ }
+    ensures { λ r. ⌜ r ≡ entry (leb (region .length) (taskOf (now (file .entry)) .limit)) (taskOf (now (file .entry)) .reload * size (members (region .loaded))) ⌝ }
+    ensures { λ _. ⌜ taskOf (now (file .entry)) .reload * size (members (region .loaded)) < 2 ^ 56 ⌝ }
+{
+    let cost = taskfile::reload(file) as u64 * region.loaded.size() as u64;
+    if region.length <= taskfile::limit(file) as u64 {
+        cost
+    } else {
+        placement::NONE
+    }
+}
+
+// No basic blocks, at edge a.
+fn start(a: usize) -> Run
+    ensures { λ r. ⌜ (r .from ≡ a) × (r .to ≡ a) × (r .time ≡ 0) × ((c : ℕ) → members (r .lines) c ≡ false) ⌝ }
+{
+    Run {
+        from: a,
+        to: a,
+        lines: LineSet::empty(),
+        time: 0,
+    }
+}
+
+// One basic block more.
+fn longer(file: &[u8], accessed: &[u64; 520], run: Run) -> Run
+    requires { ⌜ (verdict (now file) ≡ Verdict.Accepted) × Accessed (now file) (now accessed) ⌝ }
+    requires { ⌜ Spans (taskOf (now file)) run × (run .to < blockCount (taskOf (now file))) ⌝ }
+    ensures { λ r. ⌜ Spans (taskOf (now (file .entry))) r × (r .from ≡ run .from) × (r .to ≡ run .to + 1) ⌝ }
+{
+    let to = run.to;
+    let next = to + 1;
+    let lines = run.lines.union(lines_at(accessed, next));
+    let time = run.time + taskfile::time(file, to) as u64;
+    Run {
+        from: run.from,
+        to: next,
+        lines,
+        time,
+    }
+}
+
+// The region of a run of basic blocks.
+fn region_of(file: &[u8], useful: &[u64; 520], evicted: LineSet, run: Run) -> Region
+    requires { ⌜ (verdict (now file) ≡ Verdict.Accepted) × Useful (now file) (now useful) × Evicted (now file) evicted ⌝ }
+    requires { ⌜ Spans (taskOf (now file)) run ⌝ }
+    ensures { λ r. ⌜ Measures (taskOf (now (file .entry))) (run .from) (run .to) r ⌝ }
+{
+    let loaded = lines_at(useful, run.from).common(evicted).common(run.lines);
+    let reloads = taskfile::reload(file) as u64 * loaded.size() as u64;
+    let length = run.time + reloads;
+    Region { loaded, length }
+}
+
+// The lowest index at which a list of points of a task of n blocks is wrong.
+pub fn wrong_point(points: &[u16], n: usize) -> Place
+    ensures { λ r. ⌜ r ≡ wrongPoint n (now (points .entry)) ⌝ }
+{
+    let mut last = 0;
+    let mut i = 0;
+    while i < points.len() {
+        let point = points[i] as usize;
+        if point <= last || n <= point {
+            return Place::At(i);
+        }
+        last = point;
+        i += 1;
+    }
+    Place::Nowhere
+}
+
+// The price of a list of points: 7 at its lowest wrong point, then 8 at its lowest region above the limit.
+pub fn price_list(
+    file: &[u8],
+    useful: &[u64; 520],
+    accessed: &[u64; 520],
+    evicted: LineSet,
+    points: &[u16],
+) -> Price
+    requires { ⌜ Ready (now file) (now useful) (now accessed) evicted ⌝ }
+    ensures { λ r. ⌜ Prices (taskOf (now (file .entry))) (now (points .entry)) r ⌝ }
+{
+    match wrong_point(points, taskfile::block_count(file)) {
+        Place::At(i) => refused(Refusal::Argument(i)),
+        Place::Nowhere => price_regions(file, useful, accessed, evicted, points),
+    }
+}
+
+// The price of a well-formed list.
+fn price_regions(
+    file: &[u8],
+    useful: &[u64; 520],
+    accessed: &[u64; 520],
+    evicted: LineSet,
+    points: &[u16],
+) -> Price
+    requires { ⌜ Ready (now file) (now useful) (now accessed) evicted × (wrongPoint (blockCount (taskOf (now file))) (now points) ≡ Place.Nowhere) ⌝ }
+    ensures { λ r. ⌜ Prices (taskOf (now (file .entry))) (now (points .entry)) r ⌝ }
+{
+    let n = taskfile::block_count(file);
+    let limit = taskfile::limit(file) as u64;
+    let mut lines = 0u64;
+    let mut a = 0;
+    let mut i = 0;
+    while i <= points.len() {
+        let b = edge_after(points, i, n);
+        let region = region_between(file, useful, accessed, evicted, a, b);
+        if limit < region.length {
+            return refused(Refusal::AboveLimit(i));
+        }
+        lines += region.loaded.size() as u64;
+        a = b;
+        i += 1;
+    }
+    let reload = taskfile::reload(file) as u64;
+    let cost = reload * lines;
+    Price {
+        verdict: Verdict::Accepted,
+        lines,
+        cost,
+    }
+}
+
+// The edge at the end of region i: a point, or n after the last.
+fn edge_after(points: &[u16], i: usize, n: usize) -> usize
+    ensures { λ r. ⌜ r ≡ getD (now (points .entry)) i n ⌝ }
+{
+    if i < points.len() {
+        points[i] as usize
+    } else {
+        n
+    }
+}
+
+// What is answered of a list that is refused.
+fn refused(refusal: Refusal) -> Price
+    ensures { λ r. ⌜ r ≡ record { verdict = Verdict.Refused refusal; lines = 0; cost = 0 } ⌝ }
+{
+    Price {
+        verdict: Verdict::Refused(refusal),
+        lines: 0,
+        cost: 0,
+    }
+}

@@ -1,13 +1,12 @@
 -- Plan blocks (document 01, "Blocks of 512 bytes" and "Numbers given to the build"): which plans can be stored, the bytes of a plan, the plan
 -- of some bytes, and what storing and reading answer. Assumes nothing.
-use Prim.Native.Nat.{ℕ, zero, suc, _-_}
-use mathlib.Core.Bool.{Bool, true, false, cond, _&&_}
-use mathlib.Core.List.{List, [], _∷_, _++_}
+use Prim.Native.Nat.{ℕ, zero, suc, _-_, _^_, _<_}
+use mathlib.Core.Path.{_≡_}
+use mathlib.Core.Bool.{Bool, cond, _&&_}
+use mathlib.Core.List.{List, _++_}
 use lib.Dec.{eqb, leb, ltb}
 use lib.ListN.{length, getD, take, replicate}
 use Rattle.model.specs.Lists.{rightPoint}
-use Rattle.model.specs.declared.Place.{Place}
-use Rattle.model.specs.declared.Place.the-variants.{Nowhere as nowhere, At as at}
 use Rattle.model.specs.Answers.{refusedAt, accepted, onAccepted}
 use Rattle.model.specs.declared.Plan.{Plan}
 use Rattle.model.specs.declared.Refusal.the-variants.{Length, Checksum, Block as WrongBlock, Argument, Output}
@@ -34,11 +33,13 @@ planInRange p = leb 1 (p .blocks) && leb (p .blocks) 64 && leb (p .count) 63
 unfoldable pub planVerdict : Plan → Verdict
 planVerdict p = cond (planInRange p) (refusedAt (lowestFrom (entryRight p) 0 64) Argument Accepted) (Refused (Argument 0))
 
--- writing: a plan block's named bytes, of kind 4
+-- writing: what stands before the points, in a block of kind 4
+unfoldable pub planHead : Plan → List ℕ
+planHead p = le 1 4 ++ le 1 0 ++ le 2 (p .blocks) ++ le 2 (p .count) ++ le 2 (p .lines) ++ le 8 (p .cost) ++ le 4 (p .id)
+
+-- a plan block's named bytes
 unfoldable pub planNamed : Plan → List ℕ
-planNamed p =
-    le 1 4 ++ le 1 0 ++ le 2 (p .blocks) ++ le 2 (p .count) ++ le 2 (p .lines) ++ le 8 (p .cost) ++ le 4 (p .id) ++
-    les 2 (take (p .count) (p .points))
+planNamed p = planHead p ++ les 2 (take (p .count) (p .points))
 
 -- the 512 bytes of a plan, in a block numbered 0
 unfoldable pub planBytes : Plan → List ℕ
@@ -67,10 +68,6 @@ readVerdict bs =
     (cond (checksumRight bs) (cond (planRight bs) Accepted (Refused (WrongBlock 0))) (Refused (Checksum 0)))
     (Refused Length)
 
--- the plan that a refused read carries
-abbrev pub noPlan : Plan
-noPlan = record { blocks = 0; id = 0; count = 0; lines = 0; cost = 0; points = replicate 64 0 }
-
 -- what storing a plan into a lent buffer answers: 9 first
 unfoldable pub storeVerdict : Plan → List ℕ → Verdict
 storeVerdict p out = cond (eqb (length out) 512) (planVerdict p) (Refused Output)
@@ -78,3 +75,13 @@ storeVerdict p out = cond (eqb (length out) 512) (planVerdict p) (Refused Output
 -- the buffer after it: the plan's bytes, and on a refusal what it held
 unfoldable pub stored : Plan → List ℕ → List ℕ
 stored p out = onAccepted (storeVerdict p out) (planBytes p) out
+
+-- a plan's fields fit their widths, and it has 64 entries: so it is of each value of the type
+pub record PlanFits (p : Plan) : Type 0 where
+  pub blocks : p .blocks < 2 ^ 16
+  pub id : p .id < 2 ^ 32
+  pub count : p .count < 2 ^ 16
+  pub lines : p .lines < 2 ^ 16
+  pub cost : p .cost < 2 ^ 64
+  pub entries : length (p .points) ≡ 64
+  pub points : (i : ℕ) → getD (p .points) i 0 < 2 ^ 16

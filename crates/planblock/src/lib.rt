@@ -1,0 +1,273 @@
+// Plan blocks: a plan is stored in one block of 512 bytes, and read back.
+use model::Plan;
+use model::Refusal;
+use model::Verdict;
+ghost use mathlib.Core.Path.{_≡_};
+ghost use mathlib.Core.List.{_++_};
+ghost use Prim.Native.Nat.{_+_, _-_, _*_, _≤_, _<_};
+ghost use lib.ListN.{length, take, replicate};
+ghost use Rattle.model.specs.Lists.{rightPoint};
+ghost use Rattle.model.specs.Answers.{refusedAt, onAccepted};
+ghost use Rattle.model.specs.Planning.{noPlan};
+ghost use Rattle.block.specs.Bytes.{les, field, fields};
+ghost use Rattle.block.specs.Blocks.{lowestFrom, numbered, bodyRight};
+ghost use Rattle.planblock.specs.Plans.{pointBefore, entryRight, planInRange, planVerdict, planHead, planNamed, planBytes, planOf, planRight, readVerdict, storeVerdict, stored};
+
+// What reading answers: the plan is all zeros where the verdict is a refusal.
+pub struct PlanRead {
+    pub verdict: Verdict,
+    pub plan: Plan,
+}
+
+// A point p after the point a is above it and below n.
+fn right_point(n: u16, a: u16, p: u16) -> bool
+    ensures { λ r. ⌜ r ≡ rightPoint n a p ⌝ }
+{
+    a < p && p < n
+}
+
+// The point before index i; 0 before the first.
+fn point_before(points: [u16; 64], i: usize) -> u16
+    requires { ⌜ i < 64 ⌝ }
+    ensures { λ r. ⌜ r ≡ pointBefore points i ⌝ }
+{
+    if i == 0 {
+        return 0;
+    }
+    points[i - 1]
+}
+
+// Whether entry i of a plan is a right point below the count, or 0 from there on.
+fn entry_right(plan: Plan, i: usize) -> bool
+    requires { ⌜ i < 64 ⌝ }
+    ensures { λ r. ⌜ r ≡ entryRight plan i ⌝ }
+{
+    let points = plan.points;
+    let count = plan.count as usize;
+    if i < count {
+        return right_point(plan.blocks, point_before(points, i), points[i]);
+    }
+    points[i] == 0
+}
+
+// The verdict on the entries: the lowest wrong one.
+fn check_entries(plan: Plan) -> Verdict
+    ensures { λ r. ⌜ r ≡ refusedAt (lowestFrom (entryRight plan) 0 64) Refusal.Argument Verdict.Accepted ⌝ }
+{
+    let mut i = 0;
+    while i < 64 {
+        if !entry_right(plan, i) {
+            return Verdict::Refused(Refusal::Argument(i));
+        }
+        i += 1;
+    }
+    Verdict::Accepted
+}
+
+// Whether N is 1 to 64 and the count at most 63.
+fn in_range(plan: Plan) -> bool
+    ensures { λ r. ⌜ r ≡ planInRange plan ⌝ }
+{
+    if plan.blocks < 1 {
+        return false;
+    }
+    if 64 < plan.blocks {
+        return false;
+    }
+    plan.count <= 63
+}
+
+// Whether a plan can be stored.
+pub fn check(plan: Plan) -> Verdict
+    ensures { λ r. ⌜ r ≡ planVerdict plan ⌝ }
+{
+    if !in_range(plan) {
+        return Verdict::Refused(Refusal::Argument(0));
+    }
+    check_entries(plan)
+}
+
+// Stores all that stands before the points: bytes 0 to 19. Byte 0 is the kind, 4, and byte 1 zero.
+fn put_head(plan: Plan, out: &mut [u8])
+    requires { ⌜ length (now out) ≡ 512 ⌝ }
+    ensures { λ _. ⌜ take 20 (now (out .exit)) ≡ planHead plan ⌝ }
+{
+    block::put_u16(out, 0, 4);
+    block::put_u16(out, 2, plan.blocks);
+    block::put_u16(out, 4, plan.count);
+    block::put_u16(out, 6, plan.lines);
+    block::put_u64(out, 8, plan.cost);
+    block::put_u32(out, 16, plan.id);
+}
+
+// Stores the points below the count from byte 20 on.
+fn put_points(points: [u16; 64], count: usize, out: &mut [u8])
+    requires { ⌜ length (now out) ≡ 512 ⌝ }
+    requires { ⌜ count ≤ 63 ⌝ }
+    ensures { λ _. ⌜ take (20 + 2 * count) (now (out .exit)) ≡ take 20 (now (out .entry)) ++ les 2 (take count points) ⌝ }
+{
+    let mut i = 0;
+    while i < count {
+        block::put_u16(out, 20 + 2 * i, points[i]);
+        i += 1;
+    }
+}
+
+// Stores a plan's bytes 0 to 507.
+fn put_body(plan: Plan, out: &mut [u8])
+    requires { ⌜ length (now out) ≡ 512 ⌝ }
+    requires { ⌜ plan .count ≤ 63 ⌝ }
+    ensures { λ _. ⌜ take 508 (now (out .exit)) ≡ numbered 0 (planNamed plan) ⌝ }
+{
+    let points = plan.points;
+    let count = plan.count as usize;
+    put_head(plan, out);
+    put_points(points, count, out);
+    block::clear_between(out, 20 + 2 * count, 504);
+    block::put_u32(out, 504, 0);
+}
+
+// Stores a plan's checksum.
+fn put_checksum(plan: Plan, out: &mut [u8])
+    requires { ⌜ length (now out) ≡ 512 ⌝ }
+    requires { ⌜ take 508 (now out) ≡ numbered 0 (planNamed plan) ⌝ }
+    ensures { λ _. ⌜ now (out .exit) ≡ planBytes plan ⌝ }
+{
+    block::seal(out);
+}
+
+// Stores a plan's 512 bytes.
+fn put_plan(plan: Plan, out: &mut [u8])
+    requires { ⌜ length (now out) ≡ 512 ⌝ }
+    requires { ⌜ plan .count ≤ 63 ⌝ }
+    ensures { λ _. ⌜ now (out .exit) ≡ planBytes plan ⌝ }
+{
+    put_body(plan, out);
+    put_checksum(plan, out);
+}
+
+// Stores a plan where it was accepted.
+fn put_accepted(verdict: Verdict, plan: Plan, out: &mut [u8])
+    requires { ⌜ length (now out) ≡ 512 ⌝ }
+    requires { ⌜ verdict ≡ planVerdict plan ⌝ }
+    ensures { λ _. ⌜ now (out .exit) ≡ onAccepted verdict (planBytes plan) (now (out .entry)) ⌝ }
+{
+    match verdict {
+        Verdict::Accepted => put_plan(plan, out),
+        Verdict::Refused(_) => {}
+    }
+}
+
+// Stores a plan in a lent buffer: 9 for the buffer's length, then 7 for the plan. On a refusal the buffer stays what it was.
+pub fn store(plan: Plan, out: &mut [u8]) -> Verdict
+    ensures { λ r. ⌜ r ≡ storeVerdict plan (now (out .entry)) ⌝ }
+    ensures { λ _. ⌜ now (out .exit) ≡ stored plan (now (out .entry)) ⌝ }
+{
+    if out.len() != 512 {
+        return Verdict::Refused(Refusal::Output);
+    }
+    let verdict = check(plan);
+    put_accepted(verdict, plan, out);
+    verdict
+}
+
+// The points of a block, and zeros beyond the count.
+fn points_of(bytes: &[u8], count: usize) -> [u16; 64]
+    requires { ⌜ length (now bytes) ≡ 512 ⌝ }
+    requires { ⌜ count ≤ 63 ⌝ }
+    ensures { λ r. ⌜ r ≡ fields (now (bytes .entry)) 20 2 count ++ replicate (64 - count) 0 ⌝ }
+{
+    let mut points = [0u16; 64];
+    let mut i = 0;
+    while i < count {
+        points[i] = block::u16_at(bytes, 20 + 2 * i);
+        i += 1;
+    }
+    points
+}
+
+// The plan of a block.
+fn plan_of(bytes: &[u8]) -> Plan
+    requires { ⌜ length (now bytes) ≡ 512 ⌝ }
+    requires { ⌜ field (now bytes) 4 2 ≤ 63 ⌝ }
+    ensures { λ r. ⌜ r ≡ planOf (now (bytes .entry)) ⌝ }
+{
+    let count = block::u16_at(bytes, 4);
+    let points = points_of(bytes, count as usize);
+    Plan {
+        blocks: block::u16_at(bytes, 2),
+        id: block::u32_at(bytes, 16),
+        count,
+        lines: block::u16_at(bytes, 6),
+        cost: block::u64_at(bytes, 8),
+        points,
+    }
+}
+
+// Whether a block has a plan's kind and number, and zeros in byte 1 and after the points.
+fn frame_right(bytes: &[u8], count: usize) -> bool
+    requires { ⌜ length (now bytes) ≡ 512 ⌝ }
+    requires { ⌜ count ≡ field (now bytes) 4 2 ⌝ }
+    requires { ⌜ count ≤ 63 ⌝ }
+    ensures { λ r. ⌜ r ≡ bodyRight 0 (planNamed (planOf (now (bytes .entry)))) (now (bytes .entry)) ⌝ }
+{
+    if bytes[1] != 0 {
+        return false;
+    }
+    block::body_right(bytes, 0, 4, 20 + 2 * count)
+}
+
+// A refused read.
+fn refused(refusal: Refusal) -> PlanRead
+    ensures { λ r. ⌜ (r .verdict ≡ Verdict.Refused refusal) × (r .plan ≡ noPlan) ⌝ }
+{
+    PlanRead {
+        verdict: Verdict::Refused(refusal),
+        plan: Plan {
+            blocks: 0,
+            id: 0,
+            count: 0,
+            lines: 0,
+            cost: 0,
+            points: [0u16; 64],
+        },
+    }
+}
+
+// Whether a block of this plan is right.
+fn plan_right(bytes: &[u8], plan: Plan) -> bool
+    requires { ⌜ length (now bytes) ≡ 512 ⌝ }
+    requires { ⌜ plan ≡ planOf (now bytes) ⌝ }
+    requires { ⌜ plan .count ≤ 63 ⌝ }
+    ensures { λ r. ⌜ r ≡ planRight (now (bytes .entry)) ⌝ }
+{
+    let verdict = check(plan);
+    match verdict {
+        Verdict::Accepted => frame_right(bytes, plan.count as usize),
+        Verdict::Refused(_) => false,
+    }
+}
+
+// Reads a plan from any bytes: 1 for the length, 2 for the checksum, 5 for the rest.
+pub fn read(bytes: &[u8]) -> PlanRead
+    ensures { λ r. ⌜ r .verdict ≡ readVerdict (now (bytes .entry)) ⌝ }
+    ensures { λ r. ⌜ r .plan ≡ onAccepted (readVerdict (now (bytes .entry))) (planOf (now (bytes .entry))) noPlan ⌝ }
+{
+    if bytes.len() != 512 {
+        return refused(Refusal::Length);
+    }
+    if !block::checksum_right(bytes) {
+        return refused(Refusal::Checksum(0));
+    }
+    if 63 < block::u16_at(bytes, 4) {
+        return refused(Refusal::Block(0));
+    }
+    let plan = plan_of(bytes);
+    if !plan_right(bytes, plan) {
+        return refused(Refusal::Block(0));
+    }
+    PlanRead {
+        verdict: Verdict::Accepted,
+        plan,
+    }
+}

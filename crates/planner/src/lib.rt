@@ -3,16 +3,52 @@ ghost use mathlib.Core.Path.{_≡_};
 ghost use lib.ListN.{length, take};
 ghost use Prim.Native.Nat.{_<_, _≤_};
 ghost use Rattle.model.specs.Task.{blockCount};
+ghost use Rattle.model.specs.Answers.{number, place, onAccepted};
 ghost use Rattle.model.specs.Planning.{Planned, noPlan};
 ghost use Rattle.taskfile.specs.File.{verdict, taskOf};
+ghost use Rattle.planblock.specs.Plans.{storeVerdict, stored, readVerdict, planOf};
 ghost use Rattle.regions.specs.Ready.{Ready};
 ghost use Rattle.planner.specs.Calls.{noWords, usefulVerdict, usefulWords, regionVerdict, loadedWords, lengthOf, priceVerdict, priceLines, priceCost, PlanAnswer};
 use lineset::LineSet;
 use model::Plan;
 use model::Refusal;
 use model::Verdict;
-use placement::Placement;
+use planblock::PlanRead;
 use regions::Price;
+
+// A refusal's number in the table of document 01.
+pub fn refusal_number(refusal: Refusal) -> u32
+    ensures { λ r. ⌜ r ≡ number refusal ⌝ }
+{
+    match refusal {
+        Refusal::Length => 1,
+        Refusal::Checksum(_) => 2,
+        Refusal::Header => 3,
+        Refusal::BlockCount => 4,
+        Refusal::Block(_) => 5,
+        Refusal::NoPlacement => 6,
+        Refusal::Argument(_) => 7,
+        Refusal::AboveLimit(_) => 8,
+        Refusal::Output => 9,
+    }
+}
+
+// The place that a refusal names.
+pub fn refusal_place(refusal: Refusal) -> usize
+    ensures { λ r. ⌜ r ≡ place refusal ⌝ }
+{
+    match refusal {
+        Refusal::Length => 0,
+        Refusal::Checksum(block) => block,
+        Refusal::Header => 0,
+        Refusal::BlockCount => 0,
+        Refusal::Block(block) => block,
+        Refusal::NoPlacement => 0,
+        Refusal::Argument(index) => index,
+        Refusal::AboveLimit(region) => region,
+        Refusal::Output => 0,
+    }
+}
 
 // The useful lines at an edge.
 pub struct UsefulLines {
@@ -149,6 +185,22 @@ pub fn plan(file: &[u8]) -> LeastPlan
     let useful = all.useful;
     let accessed = all.accessed;
     plan_regions(file, &useful, &accessed, all.evicted)
+}
+
+// Stores a plan in a lent block.
+pub fn store(plan: Plan, block: &mut [u8]) -> Verdict
+    ensures { λ r. ⌜ r ≡ storeVerdict plan (now (block .entry)) ⌝ }
+    ensures { λ _. ⌜ now (block .exit) ≡ stored plan (now (block .entry)) ⌝ }
+{
+    planblock::store(plan, block)
+}
+
+// Reads a plan from a lent block.
+pub fn read(block: &[u8]) -> PlanRead
+    ensures { λ r. ⌜ r .verdict ≡ readVerdict (now (block .entry)) ⌝ }
+    ensures { λ r. ⌜ r .plan ≡ onAccepted (readVerdict (now (block .entry))) (planOf (now (block .entry))) noPlan ⌝ }
+{
+    planblock::read(block)
 }
 
 // The plan of an accepted file, from the lines of its edges.

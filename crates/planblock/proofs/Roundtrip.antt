@@ -1,0 +1,146 @@
+-- Storing and reading undo one another: an accepted plan reads back whole, and a readable block's plan is stored as the same bytes.
+-- Assumes nothing.
+use Prim.Native.Nat.{ℕ, _+_, _-_, _*_, _^_, _<_, _≤_}
+use mathlib.Core.Path.{_≡_, refl, sym, ap, _∙_}
+use mathlib.Core.Bool.{Bool, true, false, cond, false≢true}
+use mathlib.Core.List.{List, [], _++_, append-nil}
+use native.Mathlib.Omega.{arith}
+use lib.Dec.{eqb}
+use lib.ListN.{length, getD, take, drop, replicate, length-append, length-drop, length-replicate, getD-replicate, take-append-drop}
+use lib.Seq.{take-at, take-take, getD-take, getD-drop, length-take-le, ext-getD}
+use mir.Syntax.{w16}
+use mir.Val.{Fits}
+use borrow.Author.Tests.{eqb-true, eq-eqb, le-ltb}
+use Rattle.model.specs.Answers.{accepted}
+use Rattle.model.specs.declared.Plan.{Plan}
+use Rattle.model.specs.declared.Refusal.the-variants.{Length, Checksum, Block as WrongBlock, Output}
+use Rattle.model.specs.declared.Verdict.{Verdict}
+use Rattle.model.specs.declared.Verdict.the-variants.{Accepted, Refused}
+use Rattle.model.proofs.Lists.{and-split}
+use Rattle.block.specs.Bytes.{le, les, field, fields}
+use Rattle.block.specs.Blocks.{numbered, checksumRight, bodyRight}
+use Rattle.block.proofs.Bytes.{length-le, field-le, field-take, fields-les, fields-take}
+use Rattle.block.proofs.Blocks.{length-numbered, length-sealed, checksum-sealed, body-sealed, block-named, block-is, lowest-nowhere}
+use Rattle.planblock.specs.Plans.{entryRight, planVerdict, planHead, planNamed, planBytes, planOf, planRight, readVerdict, storeVerdict, stored, PlanFits}
+use Rattle.planblock.proofs.Storing.{length-head, length-named}
+use Rattle.planblock.proofs.Verdicts.{not-both, accepted-parts, count-accepted}
+
+-- the last number of what a list begins with is read, and the rest is what it begins with
+last-read : (bs xs : List ℕ) (from w v : ℕ) → take (from + w) bs ≡ xs ++ le w v → from + w ≤ length bs → v < 256 ^ w
+    → (field bs from w ≡ v) × (take from bs ≡ xs)
+last-read bs xs from w v p l h =
+    let n : length xs ≡ from = omega (arith, ap length p, length-take-le (from + w) bs l, length-append xs (le w v), length-le w v) in (
+      sym (field-take bs (from + w) from w (omega arith)) ∙ ap (λ (r : List ℕ). field r from w) (p ∙ sym (append-nil (xs ++ le w v))) ∙
+          field-le xs [] from w v n h,
+      sym (take-take from (from + w) bs (omega arith)) ∙ ap (take from) p ∙ take-at xs (le w v) from n,
+    )
+
+module _ (p : Plan) (f : PlanFits p) (e : planVerdict p ≡ Accepted) where
+  small : p .count ≤ 63
+  small = count-accepted p e
+
+  named-long : length (planNamed p) ≡ 20 + 2 * p .count
+  named-long = length-named p (f .entries) small
+
+  body-long : length (numbered 0 (planNamed p)) ≡ 508
+  body-long = length-numbered 0 (planNamed p) (omega (arith, named-long, small))
+
+  long : length (planBytes p) ≡ 512
+  unfolding planBytes
+  long = length-sealed (numbered 0 (planNamed p)) body-long
+
+  -- the block begins with the named bytes
+  begins : take (20 + 2 * p .count) (planBytes p) ≡ planNamed p
+  unfolding planBytes
+  begins = rw (← named-long) (block-named 0 (planNamed p))
+
+  begins-head : take 20 (planBytes p) ≡ planHead p
+  unfolding planNamed
+  begins-head =
+      sym (take-take 20 (20 + 2 * p .count) (planBytes p) (omega arith)) ∙ ap (take 20) begins ∙
+      take-at (planHead p) (les 2 (take (p .count) (p .points))) 20 (length-head p)
+
+  -- the entries from the count on are zero
+  zeros : drop (p .count) (p .points) ≡ replicate (64 - p .count) 0
+  unfolding entryRight
+  zeros =
+      let long : length (drop (p .count) (p .points)) ≡ 64 - p .count = rw (length-drop, f .entries) in
+      ext-getD 0 (drop (p .count) (p .points)) (replicate (64 - p .count) 0) (rw (long, length-replicate))
+      (λ i h.
+      let right = lowest-nowhere (entryRight p) 0 64 (accepted-parts p e .1) (p .count + i) (omega arith) (omega arith) in
+      rw (getD-drop, getD-replicate {A = ℕ} (64 - p .count) i 0 0 (omega arith)) (eqb-true _ 0 (rw (le-ltb (p .count + i) (p .count) (omega arith)) at right)))
+
+  points-read : fields (planBytes p) 20 2 (p .count) ++ replicate (64 - p .count) 0 ≡ p .points
+  unfolding planNamed
+  points-read =
+      let ns : List ℕ = take (p .count) (p .points) in
+      let n : length ns ≡ p .count = length-take-le (p .count) (p .points) (omega (arith, f .entries, small)) in
+      let below : (j : ℕ) → j < length ns → getD ns j 0 < 256 ^ 2 = λ j h. rw (getD-take (p .count) (p .points) j 0 (omega arith)) (f .points j) in
+      let stored = rw (append-nil, n) at (fields-les (planHead p) [] 20 2 ns (length-head p) below) in
+      let read = fields-take (planBytes p) (20 + 2 * p .count) 20 2 (p .count) (omega arith) in
+      rw (← read, begins, stored, ← zeros) (take-append-drop (p .count) (p .points))
+
+  plan-read : planOf (planBytes p) ≡ p
+  unfolding planOf planHead
+  plan-read =
+      let x₂ : List ℕ = le 1 4 ++ le 1 0 in
+      let x₄ : List ℕ = x₂ ++ le 2 (p .blocks) in
+      let x₆ : List ℕ = x₄ ++ le 2 (p .count) in
+      let x₈ : List ℕ = x₆ ++ le 2 (p .lines) in
+      let id = last-read (planBytes p) (x₈ ++ le 8 (p .cost)) 16 4 (p .id) begins-head (omega (arith, long)) (f .id) in
+      let cost = last-read (planBytes p) x₈ 8 8 (p .cost) (id .1) (omega (arith, long)) (f .cost) in
+      let lines = last-read (planBytes p) x₆ 6 2 (p .lines) (cost .1) (omega (arith, long)) (f .lines) in
+      let count = last-read (planBytes p) x₄ 4 2 (p .count) (lines .1) (omega (arith, long)) (f .count) in
+      let blocks = last-read (planBytes p) x₂ 2 2 (p .blocks) (count .1) (omega (arith, long)) (f .blocks) in
+      rw (count .0, points-read, id .0, cost .0, lines .0, blocks .0)
+
+  -- what is stored reads back
+  pub read-back : (readVerdict (planBytes p) ≡ Accepted) × (planOf (planBytes p) ≡ p)
+  unfolding readVerdict planRight planBytes
+  read-back = (
+    rw (eq-eqb _ 512 long, checksum-sealed (numbered 0 (planNamed p)) body-long, plan-read, e, body-sealed 0 (planNamed p) (omega (arith, named-long, small))),
+    plan-read,
+  )
+
+read-parts : (bs : List ℕ) → readVerdict bs ≡ Accepted → (checksumRight bs ≡ true) × (planRight bs ≡ true)
+unfolding readVerdict
+read-parts bs e = go (eqb (length bs) 512) (checksumRight bs) (planRight bs) e
+  where
+    go : (a b c : Bool) → cond a (cond b (cond c Accepted (Refused (WrongBlock 0))) (Refused (Checksum 0))) (Refused Length) ≡ Accepted
+        → (b ≡ true) × (c ≡ true)
+    go true true true q = (refl, refl)
+    go true true false q = absurd (not-both q)
+    go true false c q = absurd (not-both q)
+    go false b c q = absurd (not-both q)
+
+is-accepted : (v : Verdict) → accepted v ≡ true → v ≡ Accepted
+is-accepted Accepted q = refl
+is-accepted (Refused r) q = absurd (false≢true q)
+
+-- a readable block's plan is stored as the same bytes
+pub store-back : (bs : List ℕ) → readVerdict bs ≡ Accepted → (planVerdict (planOf bs) ≡ Accepted) × (planBytes (planOf bs) ≡ bs)
+unfolding planRight planBytes
+store-back bs e =
+    let parts = read-parts bs e in
+    let right = and-split (accepted (planVerdict (planOf bs))) (bodyRight 0 (planNamed (planOf bs)) bs) (parts .1) in
+    (is-accepted (planVerdict (planOf bs)) (right .0), sym (block-is 0 (planNamed (planOf bs)) bs (parts .0) (right .1)))
+
+-- the same of the calls: what `store` leaves in a buffer, `read` reads back, and what was read is stored as it was
+
+pub stored-reads : (p : Plan) (out : List ℕ) → PlanFits p → storeVerdict p out ≡ Accepted → (readVerdict (stored p out) ≡ Accepted) × (planOf (stored p out) ≡ p)
+unfolding storeVerdict stored
+stored-reads p out f e = rw e (read-back p f (go (eqb (length out) 512) e))
+  where
+    go : (b : Bool) → cond b (planVerdict p) (Refused Output) ≡ Accepted → planVerdict p ≡ Accepted
+    go true q = q
+    go false q = absurd (not-both q)
+
+pub read-stores : (bs out : List ℕ) → readVerdict bs ≡ Accepted → length out ≡ 512 → (storeVerdict (planOf bs) out ≡ Accepted) × (stored (planOf bs) out ≡ bs)
+unfolding storeVerdict stored
+read-stores bs out e l =
+    let back = store-back bs e in
+    rw (eq-eqb _ _ l, back .0) (refl, back .1)
+
+-- with this lemma `search (needs, point-fits)` shows `PlanFits` of a plan that a function was passed, or that a call gave it
+pub point-fits : (n : ℕ) → Fits w16 n → n < 2 ^ 16
+point-fits n h = h .fits

@@ -1,0 +1,25 @@
+-- `planblock::check` meets its contract: the range is tested first, and then the entries.
+-- Assumes nothing.
+use borrow.Author.Tests.{not-true, not-false}
+use borrow.Author.Needs.{needs}
+use Rattle.planblock.specs.Plans.{planVerdict}
+use Rattle.planblock.proofs.check.Statement.{statement}
+use Rattle.planblock.proofs.check.Tie as tie
+
+in-range-requires : tie.Need-in-range-requires
+in-range-requires c κs = search needs
+
+returns : tie.Need-returns
+unfolding planVerdict
+returns c = rw (← c .before .in-range .ensures, not-true (c .before .in-range .result) (c .if1 .taken))
+
+check-entries-requires : tie.Need-check-entries-requires
+check-entries-requires c κs = search needs
+
+returns-2 : tie.Need-returns-2
+unfolding planVerdict
+returns-2 c =
+    rw (← c .before .before .in-range .ensures, not-false (c .before .before .in-range .result) (c .before .if1 .left)) (c .check-entries .ensures)
+
+pub check-spec : {M : Type 1} → statement M
+check-spec = tie.close (tie.spec in-range-requires returns check-entries-requires returns-2)

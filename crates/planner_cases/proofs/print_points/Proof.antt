@@ -1,0 +1,63 @@
+-- `planner_cases::print_points` is safe and ends: i is at most the length. Assumes nothing.
+use Prim.Native.Nat.{_≤_, _-_}
+use borrow.Author.Needs.{needs}
+use lib.ListN.{length}
+use Rattle.planner_cases.proofs.print_points.Statement.{statement}
+use Rattle.planner_cases.proofs.print_points.Tie as tie
+
+abbrev Inv-loop : tie.InvT-loop
+Inv-loop points count i₀ i = i ≤ length points
+
+abbrev μ-loop : tie.MeasureT-loop
+μ-loop points count i₀ i = length points - i
+
+slice-aggregate-write-all : tie.Need-slice-aggregate-write-all Inv-loop μ-loop
+slice-aggregate-write-all c = search needs
+
+write-all-requires : tie.Need-write-all-requires Inv-loop μ-loop
+write-all-requires c κs = search needs
+
+loop-holds : tie.Need-loop-holds Inv-loop μ-loop
+loop-holds c = search needs
+
+returns : tie.Need-returns Inv-loop μ-loop
+returns c = search needs
+
+mul-print-point : tie.Need-mul-print-point Inv-loop μ-loop
+mul-print-point c = search needs
+
+shared-slice-read-print-point : tie.Need-shared-slice-read-print-point Inv-loop μ-loop
+shared-slice-read-print-point c = search needs
+
+print-point-requires : tie.Need-print-point-requires Inv-loop μ-loop
+print-point-requires c κs = search needs
+
+add-i : tie.Need-add-i Inv-loop μ-loop
+add-i c = search needs
+
+loop-less : tie.Need-loop-less Inv-loop μ-loop
+loop-less c = search needs
+
+loop-again : tie.Need-loop-again Inv-loop μ-loop
+loop-again c = search needs
+
+returns-2 : tie.Need-returns-2 Inv-loop μ-loop
+returns-2 c = search needs
+
+pub print-points-spec : {M : Type 1} → statement M
+print-points-spec =
+    tie.close
+    (tie.spec
+    Inv-loop
+    μ-loop
+    slice-aggregate-write-all
+    write-all-requires
+    loop-holds
+    returns
+    mul-print-point
+    shared-slice-read-print-point
+    print-point-requires
+    add-i
+    loop-less
+    loop-again
+    returns-2)

@@ -1,0 +1,258 @@
+// What the planner's calls answer of each task file that the arguments name: its plan, and for a task of at most four blocks the useful
+// lines of each edge, the loaded lines and length of each region, and the price of some lists.
+ghost use Prim.Native.Nat.{_≤_};
+use libc::STDOUT_FILENO;
+use lineset::LineSet;
+use model::Plan;
+use model::Refusal;
+use model::Verdict;
+
+fn number(why: Refusal) -> u64 {
+    match why {
+        Refusal::Length => 1,
+        Refusal::Checksum(_) => 2,
+        Refusal::Header => 3,
+        Refusal::BlockCount => 4,
+        Refusal::Block(_) => 5,
+        Refusal::NoPlacement => 6,
+        Refusal::Argument(_) => 7,
+        Refusal::AboveLimit(_) => 8,
+        Refusal::Output => 9,
+    }
+}
+
+fn place(why: Refusal) -> usize {
+    match why {
+        Refusal::Checksum(k) => k,
+        Refusal::Block(k) => k,
+        Refusal::Argument(i) => i,
+        Refusal::AboveLimit(i) => i,
+        _ => 0,
+    }
+}
+
+fn print_refusal(why: Refusal) {
+    io::write_all(STDOUT_FILENO, b" refused ");
+    io::print_decimal(STDOUT_FILENO, number(why));
+    io::write_all(STDOUT_FILENO, b" at ");
+    io::print_decimal(STDOUT_FILENO, place(why) as u64);
+    io::write_all(STDOUT_FILENO, b"\n");
+}
+
+fn print_number(n: u64) {
+    io::write_all(STDOUT_FILENO, b" ");
+    io::print_decimal(STDOUT_FILENO, n);
+}
+
+fn print_point(point: u16) {
+    print_number(point as u64);
+}
+
+// The first points, or none.
+fn print_points(points: &[u16], count: usize) {
+    if count == 0 {
+        io::write_all(STDOUT_FILENO, b" none");
+    }
+    let mut i = 0;
+    while i < points.len() {
+        if i == count {
+            return;
+        }
+        print_point(points[i]);
+        i += 1;
+    }
+}
+
+fn print_line(set: LineSet, line: usize) {
+    if set.contains(line) {
+        print_number(line as u64);
+    }
+}
+
+// The lines of a set, rising, or none.
+fn print_lines(set: LineSet) {
+    io::write_all(STDOUT_FILENO, b" lines");
+    if set.size() == 0 {
+        io::write_all(STDOUT_FILENO, b" none");
+    }
+    let mut line = 0;
+    while line < 512 {
+        print_line(set, line);
+        line += 1;
+    }
+}
+
+fn print_lines_and_cost(lines: u64, cost: u64) {
+    io::write_all(STDOUT_FILENO, b" lines");
+    print_number(lines);
+    io::write_all(STDOUT_FILENO, b" cost");
+    print_number(cost);
+    io::write_all(STDOUT_FILENO, b"\n");
+}
+
+fn print_plan(plan: Plan) {
+    let points = plan.points;
+    io::write_all(STDOUT_FILENO, b" points");
+    print_points(&points, plan.count as usize);
+    print_lines_and_cost(plan.lines as u64, plan.cost);
+}
+
+fn show_plan(file: &[u8]) {
+    let found = planner::plan(file);
+    let verdict = found.verdict;
+    let plan = found.plan;
+    io::write_all(STDOUT_FILENO, b"plan");
+    match verdict {
+        Verdict::Accepted => print_plan(plan),
+        Verdict::Refused(why) => print_refusal(why),
+    }
+}
+
+fn print_useful(lines: LineSet) {
+    print_lines(lines);
+    io::write_all(STDOUT_FILENO, b"\n");
+}
+
+fn show_useful(file: &[u8], k: usize) {
+    let found = planner::useful(file, k);
+    let verdict = found.verdict;
+    let lines = found.lines;
+    io::write_all(STDOUT_FILENO, b"useful");
+    print_number(k as u64);
+    match verdict {
+        Verdict::Accepted => print_useful(lines),
+        Verdict::Refused(why) => print_refusal(why),
+    }
+}
+
+fn print_region(loaded: LineSet, length: u64) {
+    print_lines(loaded);
+    io::write_all(STDOUT_FILENO, b" length");
+    print_number(length);
+    io::write_all(STDOUT_FILENO, b"\n");
+}
+
+fn show_region(file: &[u8], a: usize, b: usize) {
+    let found = planner::region(file, a, b);
+    let verdict = found.verdict;
+    let loaded = found.loaded;
+    io::write_all(STDOUT_FILENO, b"region");
+    print_number(a as u64);
+    print_number(b as u64);
+    match verdict {
+        Verdict::Accepted => print_region(loaded, found.length),
+        Verdict::Refused(why) => print_refusal(why),
+    }
+}
+
+fn show_price(file: &[u8], points: &[u16]) {
+    let price = planner::price(file, points);
+    let verdict = price.verdict;
+    io::write_all(STDOUT_FILENO, b"list");
+    print_points(points, points.len());
+    match verdict {
+        Verdict::Accepted => print_lines_and_cost(price.lines, price.cost),
+        Verdict::Refused(why) => print_refusal(why),
+    }
+}
+
+// The edges of a task of n blocks, and one beyond.
+fn show_all_useful(file: &[u8], n: usize)
+    requires { ⌜ n ≤ 4 ⌝ }
+{
+    let mut k = 0;
+    while k <= n + 1 {
+        show_useful(file, k);
+        k += 1;
+    }
+}
+
+// The regions that begin at edge a.
+fn show_regions_from(file: &[u8], a: usize, n: usize)
+    requires { ⌜ (a ≤ n) × (n ≤ 4) ⌝ }
+{
+    let mut b = a + 1;
+    while b <= n {
+        show_region(file, a, b);
+        b += 1;
+    }
+}
+
+// All regions, and three pairs that are none.
+fn show_all_regions(file: &[u8], n: usize)
+    requires { ⌜ n ≤ 4 ⌝ }
+{
+    let mut a = 0;
+    while a < n {
+        show_regions_from(file, a, n);
+        a += 1;
+    }
+    show_region(file, 1, 1);
+    show_region(file, 2, 1);
+    show_region(file, 0, n + 1);
+}
+
+// Every list of points up to 3, and four that are not well formed in a task of four blocks.
+fn show_prices(file: &[u8]) {
+    show_price(file, &[]);
+    show_price(file, &[1]);
+    show_price(file, &[2]);
+    show_price(file, &[1, 2]);
+    show_price(file, &[3]);
+    show_price(file, &[1, 3]);
+    show_price(file, &[2, 3]);
+    show_price(file, &[1, 2, 3]);
+    show_price(file, &[2, 2]);
+    show_price(file, &[0]);
+    show_price(file, &[4]);
+    show_price(file, &[3, 1]);
+}
+
+fn show_small(file: &[u8], n: usize) {
+    if n <= 4 {
+        show_all_useful(file, n);
+        show_all_regions(file, n);
+        show_prices(file);
+    }
+}
+
+fn show_task(file: &[u8]) {
+    show_plan(file);
+    let checked = taskfile::check(file);
+    let Verdict::Accepted = checked else {
+        return;
+    };
+    show_small(file, taskfile::block_count(file));
+}
+
+// What is answered of the bytes that a descriptor reads.
+fn show_file(fd: i32) {
+    let mut file = io::large_buffer();
+    let n = io::read_full(fd, &mut file);
+    show_task(&file[..n]);
+}
+
+// The name of the file that argument i names, and what is answered of it.
+fn show_case(i: usize) {
+    let mut name = io::buffer();
+    let n = os::arg(i, &mut name);
+    let fd = os::open_read(&name[..n]);
+    if fd < 0 {
+        os::fail(&name[..n]);
+        return;
+    }
+    io::write_all(STDOUT_FILENO, b"file ");
+    io::write_all(STDOUT_FILENO, &name[..n]);
+    io::write_all(STDOUT_FILENO, b"\n");
+    show_file(fd);
+    libc::close(fd);
+}
+
+fn main() {
+    let count = os::arg_count();
+    let mut i = 1;
+    while i < count {
+        show_case(i);
+        i += 1;
+    }
+}

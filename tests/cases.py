@@ -1,0 +1,314 @@
+# Writes the inputs and the expected outputs of the programs taskfile_cases and planner_cases.
+# Everything here is computed from the scope document, and nothing from the programs.
+import os
+import shutil
+import struct
+
+ROOT = os.path.join(os.path.dirname(os.path.abspath(__file__)), "..", "crates")
+MOST = 2**32 - 1
+
+
+def fnv(data):
+    h = 2166136261
+    for b in data:
+        h = (h ^ b) * 16777619 % 2**32
+    return h
+
+
+def sealed(block):
+    """The block with its checksum made right."""
+    return block[:508] + struct.pack("<I", fnv(block[:508]))
+
+
+def block(number, start):
+    return sealed(start.ljust(504, b"\0") + struct.pack("<I", number) + bytes(4))
+
+
+def header(n, m, s, q, r, ident):
+    return block(0, struct.pack("<BBHHHIII", 1, 0, n, m, s, q, r, ident))
+
+
+def entry(kind, number, value, reads):
+    return block(number, struct.pack(f"<BBHI{len(reads)}I", kind, 0, len(reads), value, *reads))
+
+
+class Task:
+    def __init__(self, s, q, r, ident, blocks, preempters):
+        self.s, self.q, self.r, self.ident = s, q, r, ident
+        self.blocks = blocks  # pairs of a time and the numbers read
+        self.preempters = preempters  # pairs of an id and the numbers read
+        self.n = len(blocks)
+        self.evicted = {m % s for _, reads in preempters for m in reads}
+        self.useful = [self.useful_at(k) for k in range(self.n + 1)]
+        self.accessed = [set()] + [self.useful[k] & self.touched(k) for k in range(1, self.n + 1)]
+
+    def file(self):
+        b = header(self.n, len(self.preempters), self.s, self.q, self.r, self.ident)
+        for i, (time, reads) in enumerate(self.blocks):
+            b += entry(2, 1 + i, time, reads)
+        for i, (ident, reads) in enumerate(self.preempters):
+            b += entry(3, 1 + self.n + i, ident, reads)
+        return b
+
+    def touched(self, k):
+        """T(k)."""
+        return {m % self.s for m in self.blocks[k - 1][1]}
+
+    def useful_at(self, k):
+        """U(k)."""
+        held, first = {}, {}
+        for _, reads in self.blocks[:k]:
+            for m in reads:
+                held[m % self.s] = m
+        for _, reads in self.blocks[k:]:
+            for m in reads:
+                first.setdefault(m % self.s, m)
+        return {c for c in held if first.get(c) == held[c]}
+
+    def loaded(self, a, b):
+        return self.useful[a] & self.evicted & set().union(*self.accessed[a + 1 : b + 1])
+
+    def length(self, a, b):
+        return sum(time for time, _ in self.blocks[a:b]) + self.r * len(self.loaded(a, b))
+
+    def price(self, points):
+        """(lines, cost), or a refusal as text."""
+        before = 0
+        for i, p in enumerate(points):
+            if not before < p < self.n:
+                return f"refused 7 at {i}"
+            before = p
+        edges = [0, *points, self.n]
+        regions = list(zip(edges, edges[1:]))
+        for i, (a, b) in enumerate(regions):
+            if self.length(a, b) > self.q:
+                return f"refused 8 at {i}"
+        lines = sum(len(self.loaded(a, b)) for a, b in regions)
+        return lines, self.r * lines
+
+    def plan(self):
+        """The first list of least cost, or None. An empty rest comes first, then the lowest next point."""
+        least = {self.n: (0, [])}
+        for a in reversed(range(self.n)):
+            for b in [self.n, *range(a + 1, self.n)]:
+                if b not in least or self.length(a, b) > self.q:
+                    continue
+                cost = self.r * len(self.loaded(a, b)) + least[b][0]
+                if a not in least or cost < least[a][0]:
+                    least[a] = cost, ([b] if b < self.n else []) + least[b][1]
+        return least[0][1] if 0 in least else None
+
+
+def seven(q, blocks=None):
+    blocks = blocks or [(20, [0, 1]), (20, [2]), (20, [0]), (20, [5, 0])]
+    return Task(4, q, 10, 7, blocks, [(1, [4, 1])])
+
+
+# A file as the document has it, but that one or more bytes are changed: (block, position) to value.
+def damaged(data, changes, seal=True):
+    blocks = [data[i : i + 512] for i in range(0, len(data), 512)]
+    for (k, at), value in changes.items():
+        blocks[k] = blocks[k][:at] + bytes([value]) + blocks[k][at + 1 :]
+        if seal:
+            blocks[k] = sealed(blocks[k])
+    return b"".join(blocks)
+
+
+def empty_entries(n, m):
+    """Basic blocks 1 to n and preempter blocks n + 1 to n + m that read nothing."""
+    basic = b"".join(entry(2, k, 20, []) for k in range(1, n + 1))
+    return basic + b"".join(entry(3, k, 0, []) for k in range(n + 1, n + m + 1))
+
+
+def small_header(n, m, s):
+    return header(n, m, s, 60, 10, 7)
+
+
+def largest_task():
+    blocks = [(i + 1, [i + 8 * j for j in range(124)]) for i in range(64)]
+    preempters = [(i, [16 * i + j for j in range(124)]) for i in range(32)]
+    return Task(512, 400, 3, 9, blocks, preempters)
+
+
+def taskfile_cases():
+    f = seven(60).file()  # blocks 1 to 4 are basic blocks, block 5 is a preempter block
+    good = "accepted"
+    big = largest_task().file()
+    assert len(f) == 6 * 512 and len(big) == 49664
+
+    def bad(changes):
+        return damaged(f, changes)
+
+    def unsealed(changes):
+        return damaged(f, changes, seal=False)
+
+    one = small_header(1, 0, 4) + empty_entries(1, 0)
+    any_value = Task(4, MOST, MOST, MOST, [(MOST, [MOST, 0, MOST])], [(MOST, [MOST, 0])])
+    all_zero = Task(1, 0, 0, 0, [(0, [0, 0])], [(0, [0])])
+    full = entry(2, 1, 20, list(range(124)))
+    full_file = small_header(1, 0, 4) + full
+    wide = sealed(full[:2] + struct.pack("<H", 125) + full[4:])
+    return [
+        ("seven", f, good),
+        # the length
+        ("len-0", b"", "refused 1 at 0"),
+        ("len-1", f[:1], "refused 1 at 0"),
+        ("len-511", f[:511], "refused 1 at 0"),
+        ("len-513", f[:513], "refused 1 at 0"),
+        ("len-1025", one + b"\0", "refused 1 at 0"),
+        ("len-50176", big + entry(3, 97, 0, []), "refused 1 at 0"),
+        ("largest", big, good),
+        # the checksum
+        ("sum-block-0", unsealed({(0, 508): f[508] ^ 1}), "refused 2 at 0"),
+        ("sum-block-0-body", unsealed({(0, 16): 8}), "refused 2 at 0"),
+        ("sum-block-3", unsealed({(3, 511): f[4 * 512 - 1] ^ 128}), "refused 2 at 3"),
+        ("sum-block-5-body", unsealed({(5, 507): 1}), "refused 2 at 5"),
+        ("sum-blocks-2-4", unsealed({(4, 4): 99, (2, 4): 99}), "refused 2 at 2"),
+        ("zeros-512", bytes(512), "refused 2 at 0"),
+        # the header
+        ("header-kind-0", bad({(0, 0): 0}), "refused 3 at 0"),
+        ("header-kind-2", bad({(0, 0): 2}), "refused 3 at 0"),
+        ("header-number", bad({(0, 504): 1}), "refused 3 at 0"),
+        ("header-number-high", bad({(0, 507): 1}), "refused 3 at 0"),
+        ("header-byte-1", bad({(0, 1): 1}), "refused 3 at 0"),
+        ("header-byte-20", bad({(0, 20): 1}), "refused 3 at 0"),
+        ("header-byte-503", bad({(0, 503): 1}), "refused 3 at 0"),
+        ("n-0", small_header(0, 1, 4) + empty_entries(0, 1), "refused 3 at 0"),
+        ("n-65", small_header(65, 0, 4) + empty_entries(65, 0), "refused 3 at 0"),
+        ("n-257", small_header(257, 0, 4) + empty_entries(1, 0), "refused 3 at 0"),
+        ("m-33", small_header(1, 33, 4) + empty_entries(1, 33), "refused 3 at 0"),
+        ("s-0", small_header(1, 0, 0) + empty_entries(1, 0), "refused 3 at 0"),
+        ("s-513", small_header(1, 0, 513) + empty_entries(1, 0), "refused 3 at 0"),
+        # the ends of the ranges
+        ("n-1-m-0-s-1", small_header(1, 0, 1) + empty_entries(1, 0), good),
+        # the count of blocks
+        ("count-one-few", f[: 5 * 512], "refused 4 at 0"),
+        ("count-one-more", f + entry(3, 6, 0, []), "refused 4 at 0"),
+        ("count-header-only", f[:512], "refused 4 at 0"),
+        # the basic blocks
+        ("basic-kind-3", bad({(2, 0): 3}), "refused 5 at 2"),
+        ("basic-kind-1", bad({(1, 0): 1}), "refused 5 at 1"),
+        ("basic-number", bad({(3, 504): 2}), "refused 5 at 3"),
+        ("basic-number-high", bad({(3, 505): 1}), "refused 5 at 3"),
+        ("basic-byte-1", bad({(4, 1): 1}), "refused 5 at 4"),
+        ("basic-after-reads", bad({(1, 16): 1}), "refused 5 at 1"),
+        ("basic-byte-503", bad({(4, 503): 1}), "refused 5 at 4"),
+        ("r-0", small_header(1, 0, 4) + entry(2, 1, 20, []), good),
+        ("r-0-byte-8", small_header(1, 0, 4) + damaged(entry(2, 1, 20, []), {(0, 8): 1}), "refused 5 at 1"),
+        ("r-124", full_file, good),
+        ("r-124-byte-503", damaged(full_file, {(1, 503): 255}), good),
+        ("r-125", small_header(1, 0, 4) + wide, "refused 5 at 1"),
+        ("r-256", damaged(one, {(1, 3): 1}), "refused 5 at 1"),
+        ("r-125-block-96", damaged(big, {(96, 2): 125}), "refused 5 at 96"),
+        # the preempter blocks
+        ("preempter-kind-2", bad({(5, 0): 2}), "refused 5 at 5"),
+        ("preempter-number", bad({(5, 504): 0}), "refused 5 at 5"),
+        ("preempter-byte-1", bad({(5, 1): 255}), "refused 5 at 5"),
+        ("preempter-after-reads", bad({(5, 16): 1}), "refused 5 at 5"),
+        # two at once
+        ("blocks-2-4", bad({(4, 1): 1, (2, 503): 1}), "refused 5 at 2"),
+        ("blocks-3-5", bad({(5, 0): 2, (3, 504): 9}), "refused 5 at 3"),
+        ("blocks-swapped", f[:512] + f[1024:1536] + f[512:1024] + f[1536:], "refused 5 at 1"),
+        ("header-and-sum-4", damaged(bad({(0, 0): 2}), {(4, 4): 1}, seal=False), "refused 2 at 4"),
+        ("header-and-count", bad({(0, 1): 1})[: 5 * 512], "refused 3 at 0"),
+        ("header-and-block-1", bad({(0, 20): 1, (1, 1): 1}), "refused 3 at 0"),
+        ("count-and-block-2", bad({(2, 0): 9})[: 5 * 512], "refused 4 at 0"),
+        ("count-and-sum-2", unsealed({(2, 8): 77})[: 5 * 512], "refused 2 at 2"),
+        ("block-1-and-sum-5", damaged(bad({(1, 0): 3}), {(5, 9): 1}, seal=False), "refused 2 at 5"),
+        ("len-and-header", bad({(0, 0): 2})[:513], "refused 1 at 0"),
+        # any value, and repeats
+        ("all-largest", any_value.file(), good),
+        ("all-zero", all_zero.file(), good),
+    ]
+
+
+def planner_tasks():
+    lone = [(60, [0])]
+    high = [(30, [300, 512]), (20, [512, 44, 300]), (20, [300, 512])]
+    preempters = [(1, [812]), (2, [0])]  # lines 300 and 0
+    same = [(MOST, [1]), (0, [1]), (MOST, [1])]
+    return [
+        ("seven-60", seven(60)),
+        ("seven-40", seven(40)),
+        ("seven-30", seven(30)),
+        ("seven-29", seven(29)),
+        ("one-60", seven(60, lone)),
+        ("one-59", seven(59, lone)),
+        ("high-70", Task(512, 70, 10, 3, high, preempters)),
+        ("high-45", Task(512, 45, 10, 3, high, preempters)),
+        ("wide", Task(512, MOST, MOST, MOST, same, [(0, [1])])),
+        ("largest", largest_task()),
+    ]
+
+
+LISTS = [[], [1], [2], [1, 2], [3], [1, 3], [2, 3], [1, 2, 3], [2, 2], [0], [4], [3, 1]]
+
+
+def words(numbers):
+    return " ".join(str(n) for n in numbers) or "none"
+
+
+def priced(price):
+    return price if isinstance(price, str) else f"lines {price[0]} cost {price[1]}"
+
+
+def plan_line(task):
+    points = task.plan()
+    if points is None:
+        return "plan refused 6 at 0"
+    return f"plan points {words(points)} {priced(task.price(points))}"
+
+
+def useful_line(task, k):
+    if k > task.n:
+        return f"useful {k} refused 7 at 0"
+    return f"useful {k} lines {words(sorted(task.useful[k]))}"
+
+
+def region_line(task, a, b):
+    if not a < b <= task.n:
+        return f"region {a} {b} refused 7 at 0"
+    return f"region {a} {b} lines {words(sorted(task.loaded(a, b)))} length {task.length(a, b)}"
+
+
+def task_lines(name, task):
+    lines = [f"file {name}", plan_line(task)]
+    if task.n <= 4:
+        n = task.n
+        pairs = [(a, b) for a in range(n) for b in range(a + 1, n + 1)]
+        lines += [useful_line(task, k) for k in range(n + 2)]
+        lines += [region_line(task, a, b) for a, b in pairs + [(1, 1), (2, 1), (0, n + 1)]]
+        lines += [f"list {words(ps)} {priced(task.price(ps))}" for ps in LISTS]
+    return "".join(line + "\n" for line in lines)
+
+
+def write(name, files, stdout):
+    folder = os.path.join(ROOT, name)
+    data = os.path.join(folder, "data")
+    shutil.rmtree(data, ignore_errors=True)
+    os.makedirs(data)
+    for file, content in files:
+        with open(os.path.join(data, file), "wb") as out:
+            out.write(content)
+    with open(os.path.join(folder, "args"), "w") as out:
+        out.write("".join(file + "\n" for file, _ in files))
+    with open(os.path.join(folder, "stdout"), "w") as out:
+        out.write(stdout)
+
+
+def write_taskfile_cases():
+    cases = taskfile_cases()
+    assert len({name for name, _, _ in cases}) == len(cases)
+    lines = "".join(f"{name} {answer}\n" for name, _, answer in cases)
+    write("taskfile_cases", [(name, content) for name, content, _ in cases], lines)
+
+
+def write_planner_cases():
+    tasks = planner_tasks()
+    lines = "".join(task_lines(name, task) for name, task in tasks)
+    write("planner_cases", [(name, task.file()) for name, task in tasks], lines)
+
+
+if __name__ == "__main__":
+    write_taskfile_cases()
+    write_planner_cases()

@@ -13,12 +13,6 @@ use Rattle.planner.specs.Calls.{usefulVerdict, usefulWords}
 use borrow.Author.Needs.{needs}
 use Rattle.planner.proofs.useful.Statement.{statement}
 use Rattle.planner.proofs.useful.Tie as tie
-use Rattle.planner.proofs.useful.Lts as lts
-use Rattle.lineset.proofs.LineSet.empty.Reads as empty-reads
-use Rattle.regions.proofs.lines_at.Reads as lines-at-reads
-use Rattle.reuse.proofs.useful_lines.Reads as useful-lines-reads
-use Rattle.taskfile.proofs.block_count.Reads as block-count-reads
-use Rattle.taskfile.proofs.check.Reads as check-reads
 
 check-requires : tie.Need-check-requires
 check-requires c κs = search needs

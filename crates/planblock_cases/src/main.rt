@@ -1,0 +1,284 @@
+// Plan blocks by example: what storing and reading answer, a line for each case.
+use libc::STDOUT_FILENO;
+use model::Plan;
+use model::Refusal;
+use model::Verdict;
+ghost use mathlib.Core.Path.{_≡_};
+ghost use Prim.Native.Nat.{_≤_, _<_};
+ghost use Rattle.model.specs.Answers.{number as Answers·number, place as Answers·place};
+ghost use Rattle.planblock.specs.Plans.{planVerdict};
+
+fn number(refusal: Refusal) -> u64
+    ensures { λ r. ⌜ r ≡ Answers·number refusal ⌝ }
+{
+    match refusal {
+        Refusal::Length => 1,
+        Refusal::Checksum(_) => 2,
+        Refusal::Header => 3,
+        Refusal::BlockCount => 4,
+        Refusal::Block(_) => 5,
+        Refusal::NoPlacement => 6,
+        Refusal::Argument(_) => 7,
+        Refusal::AboveLimit(_) => 8,
+        Refusal::Output => 9,
+    }
+}
+
+fn place(refusal: Refusal) -> usize
+    ensures { λ r. ⌜ r ≡ Answers·place refusal ⌝ }
+{
+    match refusal {
+        Refusal::Length => 0,
+        Refusal::Checksum(k) => k,
+        Refusal::Header => 0,
+        Refusal::BlockCount => 0,
+        Refusal::Block(k) => k,
+        Refusal::NoPlacement => 0,
+        Refusal::Argument(i) => i,
+        Refusal::AboveLimit(i) => i,
+        Refusal::Output => 0,
+    }
+}
+
+fn print(label: &[u8], n: u64) {
+    io::write_all(STDOUT_FILENO, label);
+    io::print_decimal(STDOUT_FILENO, n);
+}
+
+fn show(case: &[u8], verdict: Verdict) {
+    io::write_all(STDOUT_FILENO, case);
+    match verdict {
+        Verdict::Accepted => {
+            io::write_all(STDOUT_FILENO, b": accepted\n");
+        }
+        Verdict::Refused(refusal) => {
+            print(b": refused ", number(refusal));
+            print(b" at ", place(refusal) as u64);
+            io::write_all(STDOUT_FILENO, b"\n");
+        }
+    }
+}
+
+fn wide(x: u16) -> u64 {
+    x as u64
+}
+
+fn show_plan(case: &[u8], plan: Plan) {
+    io::write_all(STDOUT_FILENO, case);
+    print(b": N ", plan.blocks as u64);
+    print(b", id ", plan.id as u64);
+    print(b", count ", plan.count as u64);
+    print(b", lines ", plan.lines as u64);
+    print(b", cost ", plan.cost);
+    print(b", points ", wide(plan.points[0]));
+    print(b" ", wide(plan.points[1]));
+    io::write_all(STDOUT_FILENO, b"\n");
+}
+
+// A plan with these first three entries.
+fn plan(blocks: u16, count: u16, a: u16, b: u16, c: u16) -> Plan {
+    let mut points = [0u16; 64];
+    points[0] = a;
+    points[1] = b;
+    points[2] = c;
+    Plan {
+        blocks,
+        id: 7,
+        count,
+        lines: 5,
+        cost: 1000,
+        points,
+    }
+}
+
+// Four blocks, cut after the first and the third.
+fn right() -> Plan {
+    plan(4, 2, 1, 3, 0)
+}
+
+fn store_into(plan: Plan, n: usize) -> Verdict
+    requires { ⌜ n ≤ 513 ⌝ }
+{
+    let mut out = [0u8; 513];
+    planblock::store(plan, &mut out[0..n])
+}
+
+fn store(plan: Plan) -> Verdict {
+    store_into(plan, 512)
+}
+
+fn read_zeros(n: usize) -> Verdict
+    requires { ⌜ n ≤ 513 ⌝ }
+{
+    let bytes = [0u8; 513];
+    let read = planblock::read(&bytes[0..n]);
+    read.verdict
+}
+
+// Stores a plan, sets one byte, makes the checksum right and reads.
+fn read_with(plan: Plan, at: usize, byte: u8) -> Verdict
+    requires { ⌜ at < 512 ⌝ }
+{
+    let mut bytes = [0u8; 512];
+    planblock::store(plan, &mut bytes);
+    bytes[at] = byte;
+    block::seal(&mut bytes);
+    let read = planblock::read(&bytes);
+    read.verdict
+}
+
+// Stores a plan, changes one byte and reads.
+fn read_changed(plan: Plan, at: usize) -> Verdict
+    requires { ⌜ at < 512 ⌝ }
+{
+    let mut bytes = [0u8; 512];
+    planblock::store(plan, &mut bytes);
+    bytes[at] = if bytes[at] == 0 { 1 } else { 0 };
+    let read = planblock::read(&bytes);
+    read.verdict
+}
+
+// Stores a plan and reads it back: an accepted plan comes back whole.
+fn round_trip(plan: Plan) -> Plan
+    ensures { λ r. ⌜ (planVerdict plan ≡ Verdict.Accepted → r ≡ plan) ⌝ }
+{
+    let mut bytes = [0u8; 512];
+    planblock::store(plan, &mut bytes);
+    let read = planblock::read(&bytes);
+    read.plan
+}
+
+fn one_to_63() -> [u16; 64] {
+    let mut points = [0u16; 64];
+    let mut i: usize = 0;
+    while i < 63 {
+        points[i] = i as u16 + 1;
+        i += 1;
+    }
+    points
+}
+
+// 64 blocks, cut after each but the last.
+fn all_points(count: u16) -> Plan {
+    let points = one_to_63();
+    Plan {
+        blocks: 64,
+        id: 7,
+        count,
+        lines: 5,
+        cost: 1000,
+        points,
+    }
+}
+
+// A right plan but for its last entry.
+fn with_last() -> Plan {
+    let mut plan = right();
+    plan.points[63] = 1;
+    plan
+}
+
+// Whether a refused plan leaves the buffer as it was.
+fn kept(plan: Plan) -> bool {
+    let before = [170u8; 512];
+    let mut out = [170u8; 512];
+    planblock::store(plan, &mut out);
+    check::same(&out, &before)
+}
+
+// 9 first: a buffer of another length than 512.
+fn buffers() {
+    show(b"store in 0 bytes", store_into(right(), 0));
+    show(b"store in 511 bytes", store_into(right(), 511));
+    show(b"store in 512 bytes", store_into(right(), 512));
+    show(b"store in 513 bytes", store_into(right(), 513));
+    show(
+        b"store n65 in 511 bytes",
+        store_into(plan(65, 2, 1, 3, 0), 511),
+    );
+}
+
+// Then 7 at 0: N is 1 to 64, and the count at most 63.
+fn ranges() {
+    show(b"store n0", store(plan(0, 0, 0, 0, 0)));
+    show(b"store n1", store(plan(1, 0, 0, 0, 0)));
+    show(b"store n64", store(plan(64, 2, 1, 63, 0)));
+    show(b"store n65", store(plan(65, 2, 1, 3, 0)));
+    show(b"store n65, equal points", store(plan(65, 2, 1, 1, 0)));
+    show(b"store count 63", store(all_points(63)));
+    show(b"store count 64", store(all_points(64)));
+}
+
+// Then 7 at the lowest wrong entry.
+fn entries() {
+    show(b"store point 0", store(plan(4, 2, 0, 3, 0)));
+    show(b"store point N", store(plan(4, 2, 1, 4, 0)));
+    show(b"store equal points", store(plan(4, 2, 2, 2, 0)));
+    show(b"store falling points", store(plan(4, 2, 3, 1, 0)));
+    show(b"store two wrong points", store(plan(4, 3, 1, 1, 9)));
+    show(
+        b"store entry 2 beyond the count",
+        store(plan(4, 2, 1, 3, 2)),
+    );
+    show(b"store entry 63 beyond the count", store(with_last()));
+    if kept(with_last()) {
+        io::write_all(STDOUT_FILENO, b"the refused store left the buffer\n");
+    }
+}
+
+// 1, then 2: the length and the checksum. The four zeros are not the hash of the others.
+fn frames() {
+    show(b"read 0 bytes", read_zeros(0));
+    show(b"read 511 bytes", read_zeros(511));
+    show(b"read 513 bytes", read_zeros(513));
+    show(b"read 512 zeros", read_zeros(512));
+    show(b"read with byte 8 changed", read_changed(right(), 8));
+    show(b"read with byte 511 changed", read_changed(right(), 511));
+    show(b"read as stored", read_with(right(), 20, 1));
+}
+
+// Then 5: a wrong field under a right checksum.
+fn fields() {
+    show(b"read kind 3", read_with(right(), 0, 3));
+    show(b"read byte 1 not zero", read_with(right(), 1, 1));
+    show(b"read n0", read_with(right(), 2, 0));
+    show(b"read n65", read_with(right(), 2, 65));
+    show(b"read n260", read_with(right(), 3, 1));
+    show(b"read count 64", read_with(right(), 4, 64));
+    show(b"read count 258", read_with(right(), 5, 1));
+    show(b"read byte 503 not zero", read_with(right(), 503, 1));
+    show(b"read block number 1", read_with(right(), 504, 1));
+}
+
+// The lines, the cost and the id are free.
+fn free_fields() {
+    show(b"read other lines", read_with(right(), 6, 255));
+    show(b"read another cost", read_with(right(), 15, 255));
+    show(b"read another id", read_with(right(), 19, 255));
+}
+
+// And wrong points: points 1 and 3 stand at bytes 20 and 22.
+fn points() {
+    show(b"read point 0", read_with(right(), 20, 0));
+    show(b"read point N", read_with(right(), 22, 4));
+    show(b"read equal points", read_with(right(), 22, 1));
+    show(
+        b"read falling points",
+        read_with(plan(64, 2, 5, 9, 0), 22, 4),
+    );
+    show(b"read one point more", read_with(right(), 4, 3));
+    show(b"read one point less", read_with(right(), 4, 1));
+    show(b"read point 2, not 1", read_with(right(), 20, 2));
+}
+
+fn main() {
+    buffers();
+    ranges();
+    entries();
+    frames();
+    fields();
+    free_fields();
+    points();
+    show_plan(b"stored and read", round_trip(right()));
+    show_plan(b"refused and read", round_trip(with_last()));
+}

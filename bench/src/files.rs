@@ -1,0 +1,83 @@
+//! The files that are timed.
+
+use crate::checks::check_of;
+
+const BLOCK: usize = 512;
+
+pub struct Shape {
+    pub n: usize,
+    pub m: usize,
+    pub s: usize,
+    pub r: usize,
+    pub limit: u32,
+}
+
+struct Rng(u64);
+
+impl Rng {
+    fn below(&mut self, n: u32) -> u32 {
+        self.0 = self
+            .0
+            .wrapping_mul(6364136223846793005)
+            .wrapping_add(1442695040888963407);
+        (((self.0 >> 32) * n as u64) >> 32) as u32
+    }
+}
+
+fn put(block: &mut [u8], at: usize, bytes: &[u8]) {
+    block[at..at + bytes.len()].copy_from_slice(bytes);
+}
+
+fn seal(block: &mut [u8], number: usize) {
+    put(block, 504, &(number as u32).to_le_bytes());
+    let check = check_of(block);
+    put(block, 508, &check.to_le_bytes());
+}
+
+fn header(n: usize, m: usize, s: usize, limit: u32, reload: u32, id: u32) -> Vec<u8> {
+    let mut block = vec![0; BLOCK];
+    block[0] = 1;
+    put(&mut block, 2, &(n as u16).to_le_bytes());
+    put(&mut block, 4, &(m as u16).to_le_bytes());
+    put(&mut block, 6, &(s as u16).to_le_bytes());
+    put(&mut block, 8, &limit.to_le_bytes());
+    put(&mut block, 12, &reload.to_le_bytes());
+    put(&mut block, 16, &id.to_le_bytes());
+    seal(&mut block, 0);
+    block
+}
+
+fn reads(file: &mut Vec<u8>, kind: u8, word: u32, numbers: &[u32]) {
+    let mut block = vec![0; BLOCK];
+    block[0] = kind;
+    put(&mut block, 2, &(numbers.len() as u16).to_le_bytes());
+    put(&mut block, 4, &word.to_le_bytes());
+    for (i, m) in numbers.iter().enumerate() {
+        put(&mut block, 8 + 4 * i, &m.to_le_bytes());
+    }
+    seal(&mut block, file.len() / BLOCK);
+    file.extend(block);
+}
+
+pub fn seven() -> Vec<u8> {
+    let mut file = header(4, 1, 4, 60, 10, 7);
+    for numbers in [&[0, 1][..], &[2], &[0], &[5, 0]] {
+        reads(&mut file, 2, 20, numbers);
+    }
+    reads(&mut file, 3, 0, &[4, 1]);
+    file
+}
+
+/// Two numbers per line, every line as likely as the others.
+pub fn drawn(shape: &Shape) -> Vec<u8> {
+    let mut rng = Rng(1);
+    let mut file = header(shape.n, shape.m, shape.s, shape.limit, 10, 64);
+    for i in 0..shape.n + shape.m {
+        let numbers: Vec<u32> = (0..shape.r)
+            .map(|_| rng.below(shape.s as u32) + shape.s as u32 * rng.below(2))
+            .collect();
+        let kind = if i < shape.n { 2 } else { 3 };
+        reads(&mut file, kind, 100 + i as u32, &numbers);
+    }
+    file
+}

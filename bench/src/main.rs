@@ -1,0 +1,197 @@
+//! Times the planner's two calls against the same work written for speed in plain Rust, in one
+//! process and in turns. Every figure is the median of many rounds.
+
+mod by_line;
+mod checks;
+mod fast;
+mod files;
+mod line_sets;
+#[cfg(feature = "stub")]
+mod stub;
+
+use by_line::ByLine;
+use checks::{lowest_wrong, Chains};
+use files::{drawn, seven, Shape};
+use line_sets::LineSets;
+use std::hint::black_box;
+use std::time::{Duration, Instant};
+
+#[cfg(feature = "stub")]
+use stub::{preempt_plan, preempt_price};
+
+#[cfg(not(feature = "stub"))]
+extern "C" {
+    fn preempt_plan(file: *const u8, file_len: usize, block: *mut u8, block_len: usize) -> u32;
+    fn preempt_price(
+        file: *const u8,
+        file_len: usize,
+        points: *const u8,
+        points_len: usize,
+        block: *mut u8,
+        block_len: usize,
+    ) -> u32;
+}
+
+const ROUNDS: usize = 151;
+/// One sample lasts at least about this long.
+const SAMPLE: Duration = Duration::from_micros(400);
+
+fn planner_plan(file: &[u8], block: &mut [u8]) -> u32 {
+    unsafe { preempt_plan(file.as_ptr(), file.len(), block.as_mut_ptr(), block.len()) }
+}
+
+fn planner_price(file: &[u8], points: &[u8], block: &mut [u8]) -> u32 {
+    unsafe {
+        preempt_price(
+            file.as_ptr(),
+            file.len(),
+            points.as_ptr(),
+            points.len(),
+            block.as_mut_ptr(),
+            block.len(),
+        )
+    }
+}
+
+/// Microseconds for one of `count` runs.
+fn sample(work: &mut dyn FnMut(), count: usize) -> f64 {
+    let start = Instant::now();
+    for _ in 0..count {
+        work();
+    }
+    start.elapsed().as_secs_f64() * 1e6 / count as f64
+}
+
+/// The medians of several pieces of work, their samples taken in turns.
+fn medians<const W: usize>(mut works: [&mut dyn FnMut(); W]) -> [f64; W] {
+    let counts: Vec<usize> = works
+        .iter_mut()
+        .map(|work| {
+            sample(*work, 3);
+            let one = sample(*work, 3).max(0.01);
+            ((SAMPLE.as_secs_f64() * 1e6 / one) as usize).clamp(1, 100_000)
+        })
+        .collect();
+    let mut samples = [const { Vec::new() }; W];
+    for _ in 0..ROUNDS {
+        for w in 0..W {
+            samples[w].push(sample(works[w], counts[w]));
+        }
+    }
+    samples.map(|mut list: Vec<f64>| {
+        list.sort_by(f64::total_cmp);
+        list[list.len() / 2]
+    })
+}
+
+fn row(name: &str, file: &[u8]) {
+    const SIDE: Chains = Chains::SideBySide;
+    let mut blocks = [[0u8; 512]; 3];
+    let [ours, sets, lines] = &mut blocks;
+    let plans = [
+        planner_plan(file, ours),
+        fast::plan::<LineSets>(file, sets, SIDE),
+        fast::plan::<ByLine>(file, lines, SIDE),
+    ];
+    let points = *sets;
+    let prices = [
+        planner_price(file, &points, ours),
+        fast::price::<LineSets>(file, &points, sets, SIDE),
+        fast::price::<ByLine>(file, &points, lines, SIDE),
+    ];
+    let same = [plans, prices].iter().all(|c| c[0] == c[1] && c[0] == c[2])
+        && ours == sets
+        && ours == lines;
+    let count = u16::from_le_bytes([points[4], points[5]]);
+    println!(
+        "{name}: {} blocks, {count} points, returns {} and {}{}",
+        file.len() / 512,
+        plans[0],
+        prices[0],
+        if same { "" } else { ", ANSWERS DIFFER" }
+    );
+
+    let file = || black_box(file);
+    let points = || black_box(&points);
+    let [simple, side] = medians([
+        &mut || {
+            black_box(lowest_wrong(file(), Chains::Simple));
+        },
+        &mut || {
+            black_box(lowest_wrong(file(), SIDE));
+        },
+    ]);
+    let plan = medians([
+        &mut || {
+            black_box(planner_plan(file(), ours));
+        },
+        &mut || {
+            black_box(fast::plan::<LineSets>(file(), sets, SIDE));
+        },
+        &mut || {
+            black_box(fast::plan::<ByLine>(file(), lines, SIDE));
+        },
+    ]);
+    let price = medians([
+        &mut || {
+            black_box(planner_price(file(), points(), ours));
+        },
+        &mut || {
+            black_box(fast::price::<LineSets>(file(), points(), sets, SIDE));
+        },
+        &mut || {
+            black_box(fast::price::<ByLine>(file(), points(), lines, SIDE));
+        },
+    ]);
+    for (call, [ours, sets, lines]) in [("plan", plan), ("price", price)] {
+        println!(
+            "  {call:<6} planner {ours:9.2} us   plain {sets:8.2} us, ratio {:5.2}   by line {lines:8.2} us, ratio {:5.2}",
+            ours / sets,
+            ours / lines
+        );
+    }
+    println!(
+        "  checks simple  {simple:9.2} us   side by side {side:8.2} us   share of planning: planner {:.0}% if simple, {:.0}% if side by side; plain {:.0}%, by line {:.0}%",
+        100.0 * simple / plan[0],
+        100.0 * side / plan[0],
+        100.0 * side / plan[1],
+        100.0 * side / plan[2]
+    );
+}
+
+fn main() {
+    println!("plain: line sets of eight words, carried unions; by line: one word per line");
+    println!("both check four blocks side by side; medians of {ROUNDS} rounds in turns");
+    let largest = Shape {
+        n: 64,
+        m: 32,
+        s: 512,
+        r: 124,
+        limit: 5000,
+    };
+    row("largest file", &drawn(&largest));
+    row(
+        "largest file, Q without limit",
+        &drawn(&Shape {
+            limit: u32::MAX,
+            ..largest
+        }),
+    );
+    row("File Seven", &seven());
+    println!("growth, Q without limit:");
+    let unlimited = |n, r| {
+        drawn(&Shape {
+            n,
+            m: 32,
+            s: 512,
+            r,
+            limit: u32::MAX,
+        })
+    };
+    for n in [8, 16, 32, 64] {
+        row(&format!("N {n}, r 124, M 32"), &unlimited(n, 124));
+    }
+    for r in [8, 31, 62, 124] {
+        row(&format!("r {r}, N 64, M 32"), &unlimited(64, r));
+    }
+}

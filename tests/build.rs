@@ -1,0 +1,21 @@
+use std::env;
+
+fn main() {
+    println!("cargo:rerun-if-changed=build.rs");
+    println!("cargo:rerun-if-env-changed=PLANNER_LIB_DIR");
+    if env::var_os("CARGO_FEATURE_STUB").is_some() {
+        return;
+    }
+    match env::var("PLANNER_LIB_DIR") {
+        Ok(dir) => {
+            println!("cargo:rustc-link-search=native={dir}");
+            println!("cargo:rerun-if-changed={dir}/libfirmware.a");
+            println!("cargo:rerun-if-changed={dir}/libprobe.a");
+        }
+        Err(_) => println!("cargo:warning=PLANNER_LIB_DIR is not set"),
+    }
+    // A library may bring a panic handler of its own beside the standard one.
+    println!("cargo:rustc-link-arg-bins=-Wl,--allow-multiple-definition");
+    println!("cargo:rustc-link-lib=static=firmware");
+    println!("cargo:rustc-link-lib=static=probe");
+}

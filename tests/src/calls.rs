@@ -1,0 +1,42 @@
+//! The four calls under test.
+
+#[cfg(not(feature = "stub"))]
+mod linked {
+    extern "C" {
+        pub fn preempt_plan(
+            file: *const u8,
+            file_len: usize,
+            block: *mut u8,
+            block_len: usize,
+        ) -> u32;
+        pub fn preempt_price(
+            file: *const u8,
+            file_len: usize,
+            points: *const u8,
+            points_len: usize,
+            block: *mut u8,
+            block_len: usize,
+        ) -> u32;
+        pub fn probe_useful(
+            file: *const u8,
+            file_len: usize,
+            k: usize,
+            out: *mut u8,
+            out_len: usize,
+        ) -> u32;
+        pub fn probe_region(
+            file: *const u8,
+            file_len: usize,
+            a: usize,
+            b: usize,
+            out: *mut u8,
+            out_len: usize,
+        ) -> u32;
+    }
+}
+
+#[cfg(not(feature = "stub"))]
+pub use linked::*;
+
+#[cfg(feature = "stub")]
+pub use crate::stub::{preempt_plan, preempt_price, probe_region, probe_useful};

@@ -1,0 +1,84 @@
+//! How often each answer and each shape of plan came up.
+
+pub struct Counts(Vec<(String, u64)>);
+
+const SHAPES: [&str; 28] = [
+    "2 above block 0",
+    "5 in a basic block",
+    "5 in an interrupter",
+    "7 at index 0",
+    "7 above index 0",
+    "8 at stretch 0",
+    "8 above stretch 0",
+    "plan of 0 points",
+    "plan of 1 point",
+    "plan of several",
+    "plan of all N-1",
+    "plan at price 0",
+    "plan at R 0",
+    "plan at price > 0",
+    "price > 0, N > 12",
+    "plan with ties",
+    "plan, only one list",
+    "plan with N > 12",
+    "plan with N 64",
+    "lines above 255 used",
+    "length above 2^32",
+    "priced above 2^32",
+    "priced lines > 255",
+    "other N in the block",
+    "file of 97 blocks",
+    "end-aligned file",
+    "start-aligned file",
+    "file at an odd place",
+];
+
+impl Counts {
+    pub fn new() -> Counts {
+        let mut all = Vec::new();
+        for (call, answers) in [
+            ("plan", &["0", "1", "2", "3", "4", "5", "6", "9"][..]),
+            (
+                "price",
+                &[
+                    "0", "1", "2", "3", "4", "5", "1+97", "2+97", "5+97", "7", "8", "9",
+                ][..],
+            ),
+            ("useful", &["0", "1", "2", "3", "4", "5", "7", "9"][..]),
+            ("region", &["0", "1", "2", "3", "4", "5", "7", "9"][..]),
+        ] {
+            all.extend(answers.iter().map(|a| (format!("{call}: {a}"), 0)));
+        }
+        all.extend(SHAPES.iter().map(|s| (s.to_string(), 0)));
+        Counts(all)
+    }
+
+    pub fn add(&mut self, name: &str) {
+        let row = self.0.iter_mut().find(|(n, _)| n == name);
+        row.unwrap_or_else(|| panic!("no row {name}")).1 += 1;
+    }
+
+    pub fn add_if(&mut self, came: bool, name: &str) {
+        if came {
+            self.add(name);
+        }
+    }
+
+    pub fn print(&self) {
+        for row in self.0.chunks(3) {
+            let cells: Vec<String> = row
+                .iter()
+                .map(|(name, count)| format!("{name:<20} {count:>7}"))
+                .collect();
+            println!("{}", cells.join("   ").trim_end());
+        }
+    }
+
+    pub fn missing(&self) -> Vec<&str> {
+        self.0
+            .iter()
+            .filter(|(_, count)| *count == 0)
+            .map(|(name, _)| name.as_str())
+            .collect()
+    }
+}

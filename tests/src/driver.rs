@@ -1,0 +1,150 @@
+//! Makes one call on guarded buffers and compares everything with the reference.
+
+use crate::calls::{preempt_plan, preempt_price, probe_region, probe_useful};
+use crate::pages::{Lane, Side};
+use crate::reference::{hex, Call, Reference, Refusal};
+use crate::rng::Rng;
+use crate::watch;
+
+pub enum Outcome {
+    Refused(Refusal),
+    Planned(Vec<usize>),
+    Answered,
+}
+
+pub struct Driver {
+    file: Lane,
+    points: Lane,
+    out: Lane,
+    file_at: *const u8,
+    file_len: usize,
+    pub calls: u64,
+}
+
+pub fn random_side(rng: &mut Rng) -> Side {
+    match rng.below(20) {
+        0..=13 => Side::End,
+        14..=18 => Side::Start,
+        _ => Side::Odd,
+    }
+}
+
+impl Driver {
+    pub fn new() -> Driver {
+        let file = Lane::new(40);
+        let file_at = file.pointer(0, Side::End);
+        Driver {
+            file,
+            points: Lane::new(1),
+            out: Lane::new(1),
+            file_at,
+            file_len: 0,
+            calls: 0,
+        }
+    }
+
+    pub fn lend_file(&mut self, file: &[u8], side: Side) {
+        self.file_at = self.file.lend(file, side);
+        self.file_len = file.len();
+    }
+
+    /// Returns the code and the output, or says which byte beside the output changed.
+    fn ask(
+        &mut self,
+        rng: &mut Rng,
+        call: &Call,
+        out_len: usize,
+    ) -> Result<(u32, Vec<u8>, Vec<u8>), String> {
+        let side = random_side(rng);
+        rng.fill(self.out.bytes_mut());
+        let before = self.out.bytes().to_vec();
+        let from = self.out.offset(out_len, side);
+        let out = self.out.pointer(out_len, side);
+        let (file, file_len) = (self.file_at, self.file_len);
+        self.calls += 1;
+        let code = match *call {
+            Call::Plan => {
+                watch::call(format!("preempt_plan, block of {out_len}"), &[]);
+                unsafe { preempt_plan(file, file_len, out, out_len) }
+            }
+            Call::Price(points) => {
+                let at = self.points.lend(points, random_side(rng));
+                watch::call(
+                    format!(
+                        "preempt_price, points of {}, block of {out_len}",
+                        points.len()
+                    ),
+                    points,
+                );
+                unsafe { preempt_price(file, file_len, at, points.len(), out, out_len) }
+            }
+            Call::Useful(k) => {
+                watch::call(format!("probe_useful, k {k}, out of {out_len}"), &[]);
+                unsafe { probe_useful(file, file_len, k, out, out_len) }
+            }
+            Call::Region(a, b) => {
+                watch::call(format!("probe_region, a {a} b {b}, out of {out_len}"), &[]);
+                unsafe { probe_region(file, file_len, a, b, out, out_len) }
+            }
+        };
+        let after = self.out.bytes();
+        let end = from + out_len;
+        if after[..from] != before[..from] || after[end..] != before[end..] {
+            let i = (0..from)
+                .chain(end..after.len())
+                .find(|&i| after[i] != before[i])
+                .unwrap();
+            return Err(format!(
+                "expected: nothing written beside the output\ngot: byte {} from its start changed",
+                i as isize - from as isize
+            ));
+        }
+        Ok((code, before[from..end].to_vec(), after[from..end].to_vec()))
+    }
+
+    pub fn check(
+        &mut self,
+        rng: &mut Rng,
+        reference: &Reference,
+        call: &Call,
+        out_len: usize,
+    ) -> Result<Outcome, String> {
+        let (code, before, after) = self.ask(rng, call, out_len)?;
+        if let Some(refusal) = reference.refused(call, out_len) {
+            if code != refusal.code() {
+                return Err(format!(
+                    "expected: {} at {}\ngot: {} at {}",
+                    refusal.number,
+                    refusal.place,
+                    code / 65536,
+                    code % 65536
+                ));
+            }
+            if after != before {
+                return Err(format!(
+                    "expected: {} at {} and the output unchanged\ngot: it was\n{}and is\n{}",
+                    refusal.number,
+                    refusal.place,
+                    hex(&before),
+                    hex(&after)
+                ));
+            }
+            return Ok(Outcome::Refused(refusal));
+        }
+        if code != 0 {
+            return Err(format!(
+                "expected: 0\ngot: {} at {}",
+                code / 65536,
+                code % 65536
+            ));
+        }
+        match reference.answer(call) {
+            Some(answer) if answer == after => Ok(Outcome::Answered),
+            Some(answer) => Err(format!("expected:\n{}got:\n{}", hex(&answer), hex(&after))),
+            None => match reference.check_planned(&after) {
+                Ok(points) => Ok(Outcome::Planned(points)),
+                Err(text) => Err(format!("expected: {text}\ngot:\n{}", hex(&after))),
+            },
+        }
+    }
+}

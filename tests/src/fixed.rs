@@ -1,0 +1,239 @@
+//! The document's own cases, asked of the planner and of the reference, and a change of every
+//! bit of File Seven and of one plan block.
+
+use crate::driver::{Driver, Outcome};
+use crate::files::{file_of, largest, reads, seven};
+use crate::pages::Side;
+use crate::reference::{
+    empty_set, fnv1a, plan_block, put, seal, set_bytes, Call, Reference, Task, BLOCK,
+};
+use crate::rng::Rng;
+use crate::watch;
+
+struct Fixed<'a> {
+    driver: &'a mut Driver,
+    rng: Rng,
+    reference: Reference,
+}
+
+impl Fixed<'_> {
+    fn file(&mut self, kind: &str, file: &[u8]) {
+        watch::file(None, kind, file);
+        self.reference = Reference::new(file);
+        self.driver.lend_file(file, Side::End);
+    }
+
+    fn task(&mut self, kind: &str, task: &Task) {
+        self.file(kind, &file_of(task));
+    }
+
+    fn refused(&mut self, call: &Call, number: u32, place: u32) -> Result<(), String> {
+        match self
+            .driver
+            .check(&mut self.rng, &self.reference, call, call.out_len())?
+        {
+            Outcome::Refused(r) if r.number == number && r.place == place => Ok(()),
+            _ => Err(format!(
+                "the reference doesn't refuse with {number} at {place}"
+            )),
+        }
+    }
+
+    fn planned(&mut self, right: &[&[usize]], price: u64) -> Result<(), String> {
+        match self.driver.check(&mut self.rng, &self.reference, &Call::Plan, BLOCK)? {
+            Outcome::Planned(points)
+                if right.contains(&&points[..]) && self.reference.least.as_ref().unwrap().price == price =>
+            {
+                Ok(())
+            }
+            Outcome::Planned(points) => {
+                Err(format!("expected: one of {right:?} at price {price}\ngot: {points:?}, and the reference agrees"))
+            }
+            _ => Err("the reference plans nothing".to_string()),
+        }
+    }
+
+    fn plans_something(&mut self) -> Result<(), String> {
+        match self
+            .driver
+            .check(&mut self.rng, &self.reference, &Call::Plan, BLOCK)?
+        {
+            Outcome::Planned(_) => Ok(()),
+            _ => Err("the reference plans nothing".to_string()),
+        }
+    }
+
+    fn set(&mut self, call: &Call, lines: &[usize]) -> Result<(), String> {
+        self.driver
+            .check(&mut self.rng, &self.reference, call, call.out_len())?;
+        let mut set = empty_set();
+        for &c in lines {
+            set[c] = true;
+        }
+        match self.reference.answer(call) {
+            Some(answer) if answer[..64] == set_bytes(&set) => Ok(()),
+            _ => Err(format!("the reference doesn't give {lines:?}")),
+        }
+    }
+
+    fn anything(&mut self, call: &Call) -> Result<(), String> {
+        self.driver
+            .check(&mut self.rng, &self.reference, call, call.out_len())
+            .map(|_| ())
+    }
+}
+
+fn one_block(time: u32, limit: u32) -> Task {
+    Task {
+        lines: 4,
+        limit,
+        reload: 10,
+        id: 1,
+        blocks: vec![reads(time, &[0])],
+        interrupters: Vec::new(),
+    }
+}
+
+pub fn run(driver: &mut Driver) -> Result<(), String> {
+    for (text, check) in [
+        ("", 0x811c_9dc5),
+        ("a", 0xe40c_292c),
+        ("b", 0xe70c_2de5),
+        ("foobar", 0xbf9c_f968),
+    ] {
+        if fnv1a(text.as_bytes()) != check {
+            return Err(format!("the reference's FNV-1a of {text:?} is wrong"));
+        }
+    }
+
+    let mut f = Fixed {
+        driver,
+        rng: Rng::new(0, 0),
+        reference: Reference::new(&[]),
+    };
+    f.task("File Seven, Q 60", &seven(60));
+    for k in 0..=4 {
+        f.set(
+            &Call::Useful(k),
+            if (1..=3).contains(&k) { &[0] } else { &[] },
+        )?;
+    }
+    f.set(&Call::Region(1, 3), &[0])?;
+    f.set(&Call::Region(1, 2), &[])?;
+    f.set(&Call::Region(3, 4), &[])?;
+    f.planned(&[&[3]], 0)?;
+    f.refused(&Call::Price(&plan_block(4, 0, 0, 0, &[1])), 8, 1)?;
+    f.refused(&Call::Price(&plan_block(4, 0, 0, 0, &[2, 2])), 5, 97)?;
+    f.refused(&Call::Useful(5), 7, 0)?;
+    f.refused(&Call::Region(2, 2), 7, 0)?;
+    let far = [
+        255,
+        256,
+        65535,
+        65536,
+        65537,
+        1 << 32,
+        (1 << 32) + 1,
+        1 << 63,
+        usize::MAX - 1,
+        usize::MAX,
+    ];
+    let near: Vec<usize> = (0..8).chain(far).collect();
+    for &a in &near {
+        f.anything(&Call::Useful(a))?;
+        for &b in &near {
+            f.anything(&Call::Region(a, b))?;
+        }
+    }
+    f.task("File Seven, Q 40", &seven(40));
+    f.planned(&[&[1, 2, 3], &[2, 3]], 10)?;
+    f.task("File Seven, Q 30", &seven(30));
+    f.planned(&[&[1, 2, 3]], 10)?;
+    f.task("File Seven, Q 29", &seven(29));
+    f.refused(&Call::Plan, 6, 0)?;
+    f.task("one basic block, Q 60", &one_block(60, 60));
+    f.planned(&[&[]], 0)?;
+    f.task("one basic block, Q 59", &one_block(60, 59));
+    f.refused(&Call::Plan, 6, 0)?;
+
+    let mut task = seven(60);
+    task.lines = 512;
+    task.blocks = vec![
+        reads(1, &[300, 512]),
+        reads(1, &[512, 300]),
+        reads(1, &[300, 512]),
+    ];
+    task.interrupters = vec![reads(0, &[300, 1024])];
+    f.task("numbers 300 and 512, S 512", &task);
+    f.set(&Call::Useful(1), &[0, 300])?;
+    f.set(&Call::Region(1, 2), &[0, 300])?;
+
+    let most = largest();
+    f.task("the largest file", &most);
+    f.plans_something()?;
+    for k in [0, 1, 32, 63, 64] {
+        f.anything(&Call::Useful(k))?;
+    }
+    let mut task = most.clone();
+    task.blocks.push(reads(1, &[]));
+    task.interrupters.pop();
+    f.task("N 65", &task);
+    f.refused(&Call::Plan, 3, 0)?;
+    let mut task = most.clone();
+    task.blocks.pop();
+    task.interrupters.push(reads(1, &[]));
+    f.task("M 33", &task);
+    f.refused(&Call::Plan, 3, 0)?;
+    let mut task = most.clone();
+    task.lines = 513;
+    f.task("S 513", &task);
+    f.refused(&Call::Plan, 3, 0)?;
+    let mut file = file_of(&most);
+    put(&mut file, 5 * BLOCK + 2, 2, 125);
+    seal(&mut file[5 * BLOCK..6 * BLOCK]);
+    f.file("r 125 in block 5", &file);
+    f.refused(&Call::Plan, 5, 5)?;
+    let mut task = most;
+    task.blocks.push(reads(1, &[]));
+    f.task("50,176 bytes", &task);
+    f.refused(&Call::Plan, 1, 0)?;
+
+    changed_bits(&mut f)
+}
+
+fn changed_bits(f: &mut Fixed) -> Result<(), String> {
+    let whole = file_of(&seven(60));
+    let points = plan_block(5, 9, 8, 7, &[2, 3]);
+    for i in 0..whole.len() * 8 {
+        for sealed in [true, false] {
+            if !sealed && i % 8 != i / 8 % 8 {
+                continue;
+            }
+            let mut file = whole.clone();
+            file[i / 8] ^= 1 << (i % 8);
+            if sealed {
+                file.chunks_mut(BLOCK).for_each(seal);
+            }
+            let said = if sealed { ", sealed" } else { "" };
+            f.file(
+                &format!("File Seven, byte {} bit {} changed{said}", i / 8, i % 8),
+                &file,
+            );
+            f.anything(&Call::Plan)?;
+            if i % 7 == 0 {
+                f.anything(&Call::Price(&points))?;
+                f.anything(&Call::Useful(2))?;
+                f.anything(&Call::Region(1, 3))?;
+            }
+        }
+    }
+    f.file("File Seven, Q 60", &whole);
+    for i in 0..points.len() * 8 {
+        let mut block = points.clone();
+        block[i / 8] ^= 1 << (i % 8);
+        f.anything(&Call::Price(&block))?;
+        seal(&mut block);
+        f.anything(&Call::Price(&block))?;
+    }
+    Ok(())
+}

@@ -1,0 +1,303 @@
+//! `opponent [SEED [COUNT [CASE]]]` drives the planner through its C calls and compares every
+//! answer with a plain implementation. With CASE only that case is run. OPPONENT_SEED and
+//! OPPONENT_COUNT serve where an argument is missing; with OPPONENT_RANDOM_ONLY the document's
+//! own cases are left out.
+
+mod calls;
+mod counts;
+mod driver;
+mod files;
+mod fixed;
+mod pages;
+mod reference;
+mod rng;
+#[cfg(feature = "stub")]
+mod stub;
+mod watch;
+
+use counts::Counts;
+use driver::{random_side, Driver, Outcome};
+use pages::Side;
+use reference::{Call, Reference, BLOCK, MOST_BLOCKS};
+use rng::Rng;
+use std::process::ExitCode;
+
+const FILES: u64 = 24000;
+
+fn setting(args: &[String], index: usize, name: &str) -> Option<u64> {
+    let text = args
+        .get(index)
+        .cloned()
+        .or_else(|| std::env::var(name).ok())?;
+    match text.parse() {
+        Ok(value) => Some(value),
+        Err(_) => {
+            eprintln!("usage: opponent [SEED [COUNT [CASE]]], not {text:?}");
+            std::process::exit(2);
+        }
+    }
+}
+
+fn clock_seed() -> u64 {
+    let since = std::time::SystemTime::now()
+        .duration_since(std::time::UNIX_EPOCH)
+        .unwrap();
+    since.as_nanos() as u64
+}
+
+fn main() -> ExitCode {
+    let args: Vec<String> = std::env::args().skip(1).collect();
+    #[cfg(feature = "stub")]
+    if args.first().is_some_and(|a| a == "bugs") {
+        return stub::try_bugs();
+    }
+    let seed = setting(&args, 0, "OPPONENT_SEED").unwrap_or_else(clock_seed);
+    let count = setting(&args, 1, "OPPONENT_COUNT").unwrap_or(FILES);
+    let only = setting(&args, 2, "OPPONENT_CASE");
+    watch::start(seed);
+    println!("seed {seed}, {count} files");
+    let mut driver = Driver::new();
+    let mut counts = Counts::new();
+
+    let cases = match only {
+        Some(case) => case..case + 1,
+        None => 0..count,
+    };
+    let random_only = std::env::var_os("OPPONENT_RANDOM_ONLY").is_some();
+    if only.is_none() && !random_only {
+        if let Err(text) = fixed::run(&mut driver) {
+            watch::failed(&text);
+            return ExitCode::FAILURE;
+        }
+    }
+    for case in cases {
+        let mut rng = Rng::new(seed, case);
+        if let Err(text) = run_case(&mut driver, &mut counts, &mut rng, case) {
+            watch::failed(&text);
+            return ExitCode::FAILURE;
+        }
+    }
+    watch::stop();
+    if only.is_some() {
+        println!("opponent: case agrees");
+        return ExitCode::SUCCESS;
+    }
+    counts.print();
+    println!("{} calls", driver.calls);
+    let missing = counts.missing();
+    if !missing.is_empty() {
+        println!("never came up: {}", missing.join("; "));
+        return ExitCode::FAILURE;
+    }
+    println!("opponent: {count} files agree");
+    ExitCode::SUCCESS
+}
+
+fn out_len(rng: &mut Rng, right: usize) -> usize {
+    if rng.percent(94) {
+        right
+    } else {
+        rng.pick(&[
+            0,
+            1,
+            64,
+            72,
+            63,
+            65,
+            71,
+            73,
+            511,
+            512,
+            513,
+            1024,
+            right - 1,
+            right + 1,
+        ])
+    }
+}
+
+fn random_k(rng: &mut Rng, n: usize) -> usize {
+    match rng.below(10) {
+        0 => rng.pick(&[n, n + 1, n + 2, n - 1, 0, 1]),
+        1 => rng.pick(&[
+            63,
+            64,
+            65,
+            66,
+            255,
+            256,
+            65535,
+            65536,
+            1 << 31,
+            1 << 32,
+            1 << 63,
+            usize::MAX,
+        ]),
+        2 => rng.pick(&[1 << 8, 1 << 16, 1 << 32, 1 << 63]) + rng.between(0, n),
+        _ => rng.between(0, n),
+    }
+}
+
+fn random_region(rng: &mut Rng, n: usize) -> (usize, usize) {
+    match rng.below(8) {
+        0 => (random_k(rng, n), random_k(rng, n)),
+        1 => {
+            let a = rng.between(0, n + 1);
+            (a, rng.between(0, n + 1))
+        }
+        2 => (rng.between(0, n), n),
+        _ => {
+            let a = rng.below(n);
+            (a, rng.between(a + 1, n))
+        }
+    }
+}
+
+fn count_refusal(counts: &mut Counts, call: &str, outcome: &Outcome, n: usize) {
+    let Outcome::Refused(r) = outcome else {
+        counts.add(&format!("{call}: 0"));
+        return;
+    };
+    let first_block = call == "price" && matches!(r.number, 1 | 2 | 5) && r.place == 97;
+    counts.add(&format!(
+        "{call}: {}{}",
+        r.number,
+        if first_block { "+97" } else { "" }
+    ));
+    if first_block {
+        return;
+    }
+    counts.add_if(r.number == 2 && r.place > 0, "2 above block 0");
+    counts.add_if(r.number == 5 && r.place as usize <= n, "5 in a basic block");
+    counts.add_if(r.number == 5 && r.place as usize > n, "5 in an interrupter");
+    counts.add_if(
+        call == "price" && r.number == 7 && r.place == 0,
+        "7 at index 0",
+    );
+    counts.add_if(r.number == 7 && r.place > 0, "7 above index 0");
+    counts.add_if(r.number == 8 && r.place == 0, "8 at stretch 0");
+    counts.add_if(r.number == 8 && r.place > 0, "8 above stretch 0");
+}
+
+fn run_case(
+    driver: &mut Driver,
+    counts: &mut Counts,
+    rng: &mut Rng,
+    case: u64,
+) -> Result<(), String> {
+    let task = files::random_task(rng);
+    let mut file = files::file_of(&task);
+    let mut kind = "whole".to_string();
+    if rng.percent(35) {
+        kind = files::damage(rng, &mut file);
+    }
+    let side = random_side(rng);
+    watch::file(Some(case), &kind, &file);
+    let reference = Reference::new(&file);
+    driver.lend_file(&file, side);
+    counts.add(match side {
+        Side::End => "end-aligned file",
+        Side::Start => "start-aligned file",
+        Side::Odd => "file at an odd place",
+    });
+    counts.add_if(file.len() == MOST_BLOCKS * BLOCK, "file of 97 blocks");
+
+    if !reference.agrees_with_itself() {
+        return Err(
+            "the reference finds another least price by trying all lists than by recursion"
+                .to_string(),
+        );
+    }
+    let accepted = reference.model.is_some();
+    let named = if file.len() >= BLOCK {
+        reference::field(&file, 2, 2) as usize
+    } else {
+        0
+    };
+    let n = reference.model.as_ref().map_or(task.blocks.len(), |m| m.n);
+
+    let mut good: Vec<Vec<usize>> = Vec::new();
+    if let Some(least) = &reference.least {
+        good.push(least.points.clone());
+    }
+    let len = out_len(rng, 512);
+    let outcome = driver.check(rng, &reference, &Call::Plan, len)?;
+    count_refusal(counts, "plan", &outcome, named);
+    if let Outcome::Planned(points) = outcome {
+        count_plan(counts, &reference, &points);
+        good.push(points);
+    }
+
+    let prices = if accepted { 4 } else { 2 };
+    for _ in 0..prices {
+        let (block, said) = files::random_points_block(rng, n, &good);
+        let len = out_len(rng, 512);
+        let call = Call::Price(&block);
+        let outcome = driver
+            .check(rng, &reference, &call, len)
+            .map_err(|text| format!("points: {said}\n{text}"))?;
+        count_refusal(counts, "price", &outcome, named);
+        if let Outcome::Answered = outcome {
+            let model = reference.model.as_ref().unwrap();
+            let points = reference::points_of(&block);
+            counts.add_if(model.price_of(&points) >= 1 << 32, "priced above 2^32");
+            counts.add_if(model.lines_of(&points) > 255, "priced lines > 255");
+            counts.add_if(
+                reference::field(&block, 2, 2) as usize != n,
+                "other N in the block",
+            );
+        }
+    }
+
+    let (useful, regions) = match (accepted, n) {
+        (false, _) => (1, 1),
+        (true, ..=40) => (4, 6),
+        (true, _) => (4, 8),
+    };
+    for _ in 0..useful {
+        let k = random_k(rng, n);
+        let len = out_len(rng, 64);
+        let outcome = driver.check(rng, &reference, &Call::Useful(k), len)?;
+        count_refusal(counts, "useful", &outcome, named);
+    }
+    for _ in 0..regions {
+        let (a, b) = random_region(rng, n);
+        let len = out_len(rng, 72);
+        let outcome = driver.check(rng, &reference, &Call::Region(a, b), len)?;
+        count_refusal(counts, "region", &outcome, named);
+        if let Outcome::Answered = outcome {
+            let model = reference.model.as_ref().unwrap();
+            counts.add_if(model.length(a, b) >= 1 << 32, "length above 2^32");
+            counts.add_if(
+                model.loaded(a, b)[256..].contains(&true),
+                "lines above 255 used",
+            );
+        }
+    }
+    Ok(())
+}
+
+fn count_plan(counts: &mut Counts, reference: &Reference, points: &[usize]) {
+    let model = reference.model.as_ref().unwrap();
+    let least = reference.least.as_ref().unwrap();
+    match points.len() {
+        0 => counts.add("plan of 0 points"),
+        1 => counts.add("plan of 1 point"),
+        _ => counts.add("plan of several"),
+    }
+    counts.add_if(
+        model.n > 2 && points.len() == model.n - 1,
+        "plan of all N-1",
+    );
+    counts.add_if(least.price == 0, "plan at price 0");
+    counts.add_if(model.task.reload == 0, "plan at R 0");
+    counts.add_if(least.price > 0, "plan at price > 0");
+    counts.add_if(
+        least.price > 0 && model.n > reference::TRY_ALL,
+        "price > 0, N > 12",
+    );
+    counts.add_if(least.ties > 1, "plan with ties");
+    counts.add_if(least.ties == 1 && model.n > 1, "plan, only one list");
+    counts.add_if(model.n > reference::TRY_ALL, "plan with N > 12");
+    counts.add_if(model.n == 64, "plan with N 64");
+}

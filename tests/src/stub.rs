@@ -1,0 +1,886 @@
+//! The four calls without the planner. They answer from the reference; with STUB_BUG set they
+//! answer from a second implementation that has that bug. STUB_BUG=none is that implementation
+//! without any. `opponent bugs` tries them all and says which are noticed.
+
+use crate::reference::{Call, Reference};
+use std::process::{Command, ExitCode};
+use std::sync::{Mutex, OnceLock};
+
+pub const BUGS: [&str; 86] = [
+    "line numbers in eight bits",
+    "line numbers in nine bits with S 512 as 511",
+    "number 0 as empty",
+    "numbers compared in sixteen bits",
+    "numbers compared in 31 bits",
+    "useful without comparing the number",
+    "useful if read again at any later time",
+    "useful if the last number read is the same",
+    "accessed with the block before",
+    "accessed is touched",
+    "interrupters forgotten",
+    "only the first interrupter",
+    "stretch begins with block a",
+    "stretch without block b",
+    "one reload price per point",
+    "a line counted once for the task",
+    "Q without reloads",
+    "lengths in 32 bits",
+    "below Q only",
+    "price without R",
+    "price in 32 bits",
+    "lines in eight bits",
+    "6 to all",
+    "6 only where one time exceeds Q",
+    "all points",
+    "one cut and on to N",
+    "longest stretch first",
+    "fewest points",
+    "last stretch not tested",
+    "stretches of at most 40 blocks",
+    "at most 62 points",
+    "one reload price per point in the choice only",
+    "a line once for the task in the choice only",
+    "9 last",
+    "512 or more as output",
+    "written on refusal 6",
+    "written on refusal 8",
+    "output cleared on any refusal",
+    "nothing written",
+    "bytes after the points left",
+    "check not stored",
+    "one byte written after the output",
+    "one byte written before the output",
+    "file written",
+    "points written",
+    "file read beyond its end",
+    "file read before its start",
+    "points read beyond their end",
+    "length in sixteen bits",
+    "98 blocks taken",
+    "part of a block taken",
+    "3 before 2",
+    "4 before 3",
+    "5 before 4",
+    "2 always at block 0",
+    "2 at the highest block",
+    "5 at the highest block",
+    "byte 1 not looked at",
+    "byte 503 not looked at",
+    "bytes after the numbers not looked at",
+    "block numbers in eight bits",
+    "kinds 2 and 3 alike",
+    "counts in eight bits",
+    "124 refused",
+    "125 taken",
+    "N 64 refused",
+    "N in eight bits",
+    "M 32 refused",
+    "M in five bits",
+    "S 512 refused",
+    "S 513 taken",
+    "97 forgotten",
+    "points looked at before the file",
+    "count 63 refused",
+    "other N in the block refused",
+    "points not looked at with the block's N",
+    "bytes after the points not looked at",
+    "points in eight bits",
+    "7 after 8",
+    "7 at the highest index",
+    "8 at the highest stretch",
+    "8 always at stretch 0",
+    "id of the first block stored",
+    "N of the first block stored",
+    "lines and price of the first block stored",
+    "k in 32 bits",
+];
+
+fn bug() -> &'static str {
+    static BUG: OnceLock<String> = OnceLock::new();
+    BUG.get_or_init(|| std::env::var("STUB_BUG").unwrap_or_default())
+}
+
+fn has(name: &str) -> bool {
+    debug_assert!(BUGS.contains(&name), "{name}");
+    bug() == name
+}
+
+/// Runs this program once per bug, the document's own cases left out.
+pub fn try_bugs() -> ExitCode {
+    let me = std::env::current_exe().unwrap();
+    let mut missed = 0;
+    for name in ["", "none"].into_iter().chain(BUGS) {
+        let run = Command::new(&me)
+            .args(["1", "8000"])
+            .env("STUB_BUG", name)
+            .env("OPPONENT_RANDOM_ONLY", "1")
+            .output()
+            .unwrap();
+        let text = String::from_utf8_lossy(&run.stdout).into_owned();
+        let line = |starts: &str| {
+            text.lines()
+                .find(|l| l.starts_with(starts))
+                .unwrap_or("")
+                .to_string()
+        };
+        let noticed = run.status.code() == Some(1) && text.contains("FAILED");
+        let wanted = BUGS.contains(&name);
+        let verdict = match (wanted, noticed) {
+            (true, true) => "caught",
+            (true, false) => "MISSED",
+            (false, false) if run.status.success() => "agrees",
+            _ => "DISAGREES",
+        };
+        missed += (verdict == "MISSED" || verdict == "DISAGREES") as u32;
+        let at = line("seed 1 case")
+            .split(',')
+            .next()
+            .unwrap_or("")
+            .replace("seed 1 ", "");
+        println!("{verdict}: {name:<44} {at:<12} {}", line("call:"));
+    }
+    println!("{missed} missed");
+    if missed == 0 {
+        ExitCode::SUCCESS
+    } else {
+        ExitCode::FAILURE
+    }
+}
+
+fn slice<'a>(at: *const u8, len: usize) -> &'a [u8] {
+    unsafe { std::slice::from_raw_parts(at, len) }
+}
+
+fn slice_mut<'a>(at: *mut u8, len: usize) -> &'a mut [u8] {
+    unsafe { std::slice::from_raw_parts_mut(at, len) }
+}
+
+pub unsafe fn preempt_plan(
+    file: *const u8,
+    file_len: usize,
+    block: *mut u8,
+    block_len: usize,
+) -> u32 {
+    answer(file, file_len, &Call::Plan, block, block_len)
+}
+
+pub unsafe fn preempt_price(
+    file: *const u8,
+    file_len: usize,
+    points: *const u8,
+    points_len: usize,
+    block: *mut u8,
+    block_len: usize,
+) -> u32 {
+    answer(
+        file,
+        file_len,
+        &Call::Price(slice(points, points_len)),
+        block,
+        block_len,
+    )
+}
+
+pub unsafe fn probe_useful(
+    file: *const u8,
+    file_len: usize,
+    k: usize,
+    out: *mut u8,
+    out_len: usize,
+) -> u32 {
+    answer(file, file_len, &Call::Useful(k), out, out_len)
+}
+
+pub unsafe fn probe_region(
+    file: *const u8,
+    file_len: usize,
+    a: usize,
+    b: usize,
+    out: *mut u8,
+    out_len: usize,
+) -> u32 {
+    answer(file, file_len, &Call::Region(a, b), out, out_len)
+}
+
+static LAST: Mutex<Option<(Vec<u8>, Reference)>> = Mutex::new(None);
+
+fn answer(file: *const u8, file_len: usize, call: &Call, out: *mut u8, out_len: usize) -> u32 {
+    if !bug().is_empty() {
+        return broken(file, file_len, call, out, out_len);
+    }
+    let file = slice(file, file_len);
+    let mut last = LAST.lock().unwrap();
+    if last.as_ref().is_none_or(|(bytes, _)| bytes != file) {
+        *last = Some((file.to_vec(), Reference::new(file)));
+    }
+    let reference = &last.as_ref().unwrap().1;
+    if let Some(refusal) = reference.refused(call, out_len) {
+        return refusal.code();
+    }
+    let bytes = match reference.answer(call) {
+        Some(bytes) => bytes,
+        None => reference.stored(&reference.least.as_ref().unwrap().points),
+    };
+    slice_mut(out, out_len).copy_from_slice(&bytes);
+    0
+}
+
+fn get16(b: &[u8], at: usize) -> usize {
+    u16::from_le_bytes([b[at], b[at + 1]]) as usize
+}
+
+fn get32(b: &[u8], at: usize) -> u32 {
+    u32::from_le_bytes([b[at], b[at + 1], b[at + 2], b[at + 3]])
+}
+
+fn check(b: &[u8]) -> u32 {
+    b[..508]
+        .iter()
+        .fold(2166136261u32, |h, &x| (h ^ x as u32).wrapping_mul(16777619))
+}
+
+type Words = [u64; 8];
+
+struct Task {
+    n: usize,
+    s: usize,
+    q: u64,
+    r: u64,
+    id: u32,
+    times: Vec<u64>,
+    reads: Vec<Vec<u32>>,
+    strikes: Vec<Vec<u32>>,
+}
+
+fn code(number: u32, place: usize) -> u32 {
+    number << 16 | place as u32
+}
+
+fn zeros(b: &[u8], from: usize) -> bool {
+    let to = if has("byte 503 not looked at") {
+        503
+    } else {
+        504
+    };
+    from >= to || b[from..to].iter().all(|&x| x == 0)
+}
+
+fn check_blocks(file: &[u8], count: usize) -> Result<(), u32> {
+    let wrong: Vec<usize> = (0..count)
+        .filter(|i| {
+            let b = &file[i * 512..i * 512 + 512];
+            check(b) != get32(b, 508)
+        })
+        .collect();
+    if let (Some(&first), Some(&last)) = (wrong.first(), wrong.last()) {
+        let place = match bug() {
+            "2 always at block 0" => 0,
+            "2 at the highest block" => last,
+            _ => first,
+        };
+        return Err(code(2, place));
+    }
+    Ok(())
+}
+
+fn check_header(h: &[u8]) -> Result<(usize, usize, usize), u32> {
+    let (mut n, m, s) = (get16(h, 2), get16(h, 4), get16(h, 6));
+    if has("N in eight bits") {
+        n %= 256;
+    }
+    let most = if has("N 64 refused") { 63 } else { 64 };
+    let most_lines = match bug() {
+        "S 513 taken" => 513,
+        "S 512 refused" => 511,
+        _ => 512,
+    };
+    let most_strikes = if has("M 32 refused") { 31 } else { 32 };
+    let m = if has("M in five bits") { m % 32 } else { m };
+    if h[0] != 1
+        || (h[1] != 0 && !has("byte 1 not looked at"))
+        || n < 1
+        || n > most
+        || m > most_strikes
+        || s < 1
+        || s > most_lines
+        || !zeros(h, 20)
+        || !numbered(h, 0)
+    {
+        return Err(code(3, 0));
+    }
+    Ok((n, m, s.min(512)))
+}
+
+fn numbered(b: &[u8], i: usize) -> bool {
+    let number = get32(b, 504) as usize;
+    number == i || (has("block numbers in eight bits") && number % 256 == i)
+}
+
+fn count_of(b: &[u8]) -> usize {
+    if has("counts in eight bits") {
+        get16(b, 2) % 256
+    } else {
+        get16(b, 2)
+    }
+}
+
+fn check_reads(file: &[u8], count: usize, n: usize) -> Result<(), u32> {
+    let mut wrong = Vec::new();
+    for i in 1..count {
+        let b = &file[i * 512..i * 512 + 512];
+        let kind = if i <= n { 2 } else { 3 };
+        let most = match bug() {
+            "124 refused" => 123,
+            "125 taken" => 125,
+            _ => 124,
+        };
+        let r = count_of(b);
+        let kind_right = b[0] == kind || (has("kinds 2 and 3 alike") && (b[0] == 2 || b[0] == 3));
+        if !kind_right
+            || (b[1] != 0 && !has("byte 1 not looked at"))
+            || r > most
+            || !numbered(b, i)
+            || !(has("bytes after the numbers not looked at") || zeros(b, 8 + 4 * r))
+        {
+            wrong.push(i);
+        }
+    }
+    if let (Some(&first), Some(&last)) = (wrong.first(), wrong.last()) {
+        return Err(code(
+            5,
+            if has("5 at the highest block") {
+                last
+            } else {
+                first
+            },
+        ));
+    }
+    Ok(())
+}
+
+fn read(file: &[u8]) -> Result<Task, u32> {
+    let most = if has("98 blocks taken") { 98 } else { 97 };
+    let mut len = file.len();
+    if has("length in sixteen bits") {
+        len %= 65536;
+    }
+    if has("part of a block taken") && len > 512 {
+        len -= len % 512;
+    }
+    if len == 0 || len % 512 != 0 || len > most * 512 {
+        return Err(code(1, 0));
+    }
+    let count = len / 512;
+    if has("3 before 2") {
+        check_header(file)?;
+    }
+    check_blocks(file, count)?;
+    if has("4 before 3") && count != 1 + get16(file, 2) + get16(file, 4) {
+        return Err(code(4, 0));
+    }
+    let (n, m, s) = check_header(file)?;
+    if has("5 before 4") {
+        check_reads(file, count, n)?;
+    }
+    if count != 1 + n + m {
+        return Err(code(4, 0));
+    }
+    check_reads(file, count, n)?;
+    let numbers = |i: usize| {
+        let b = &file[i * 512..i * 512 + 512];
+        (0..count_of(b).min(124))
+            .map(|j| get32(b, 8 + 4 * j))
+            .collect::<Vec<u32>>()
+    };
+    Ok(Task {
+        n,
+        s,
+        q: get32(file, 8) as u64,
+        r: get32(file, 12) as u64,
+        id: get32(file, 16),
+        times: (1..=n).map(|i| get32(file, i * 512 + 4) as u64).collect(),
+        reads: (1..=n).map(numbers).collect(),
+        strikes: (n + 1..=n + m).map(numbers).collect(),
+    })
+}
+
+fn line(m: u32, s: usize) -> usize {
+    match bug() {
+        "line numbers in eight bits" => m as usize % s % 256,
+        "line numbers in nine bits with S 512 as 511" => m as usize % s.min(511),
+        _ => m as usize % s,
+    }
+}
+
+fn insert(set: &mut Words, c: usize) {
+    set[c / 64] |= 1 << (c % 64);
+}
+
+fn both(a: &Words, b: &Words) -> Words {
+    std::array::from_fn(|i| a[i] & b[i])
+}
+
+fn either(a: &Words, b: &Words) -> Words {
+    std::array::from_fn(|i| a[i] | b[i])
+}
+
+fn ones(a: &Words) -> u64 {
+    a.iter().map(|w| w.count_ones() as u64).sum()
+}
+
+struct Sets {
+    useful: Vec<Words>,
+    accessed: Vec<Words>,
+    struck: Words,
+}
+
+/// One walk over all reads: a line read again with the number it holds was useful at every edge
+/// since it was last read.
+fn sets(t: &Task) -> Sets {
+    let mut useful = vec![[0u64; 8]; t.n + 1];
+    let mut touched = vec![[0u64; 8]; t.n + 1];
+    let mut held: Vec<Option<u32>> = vec![None; 512];
+    let mut last = vec![0; 512];
+    for k in 1..=t.n {
+        for &m in &t.reads[k - 1] {
+            let c = line(m, t.s);
+            insert(&mut touched[k], c);
+            if has("number 0 as empty") && held[c] == Some(0) {
+                held[c] = None;
+            }
+            let again = match bug() {
+                "useful without comparing the number" => held[c].is_some(),
+                "numbers compared in sixteen bits" => held[c].is_some_and(|h| h as u16 == m as u16),
+                "numbers compared in 31 bits" => held[c].is_some_and(|h| h << 1 == m << 1),
+                _ => held[c] == Some(m),
+            };
+            if again {
+                for set in &mut useful[last[c]..k] {
+                    insert(set, c);
+                }
+            }
+            held[c] = Some(m);
+            last[c] = k;
+        }
+    }
+    if has("useful if read again at any later time")
+        || has("useful if the last number read is the same")
+    {
+        let mut held: Vec<Option<u32>> = vec![None; 512];
+        for k in 0..=t.n {
+            if k > 0 {
+                for &m in &t.reads[k - 1] {
+                    held[line(m, t.s)] = Some(m);
+                }
+            }
+            useful[k] = [0; 8];
+            for c in 0..512 {
+                let mut later = t.reads[k..]
+                    .iter()
+                    .flatten()
+                    .filter(|&&m| line(m, t.s) == c);
+                let there = match held[c] {
+                    None => false,
+                    Some(h) if has("useful if read again at any later time") => {
+                        later.any(|&m| m == h)
+                    }
+                    Some(h) => later.next_back() == Some(&h),
+                };
+                if there {
+                    insert(&mut useful[k], c);
+                }
+            }
+        }
+    }
+    let accessed = (0..=t.n)
+        .map(|k| match bug() {
+            "accessed is touched" => touched[k],
+            "accessed with the block before" => both(&useful[k.saturating_sub(1)], &touched[k]),
+            _ => both(&useful[k], &touched[k]),
+        })
+        .collect();
+    let mut struck = [0; 8];
+    let count = if has("only the first interrupter") {
+        t.strikes.len().min(1)
+    } else {
+        t.strikes.len()
+    };
+    for &m in t.strikes[..count].iter().flatten() {
+        insert(&mut struck, line(m, t.s));
+    }
+    if has("interrupters forgotten") {
+        struck = [u64::MAX; 8];
+    }
+    Sets {
+        useful,
+        accessed,
+        struck,
+    }
+}
+
+fn loaded(sets: &Sets, a: usize, b: usize) -> Words {
+    if has("one reload price per point") {
+        return both(&sets.useful[a], &sets.struck);
+    }
+    let from = if has("stretch begins with block a") {
+        a
+    } else {
+        a + 1
+    };
+    let to = if has("stretch without block b") {
+        b
+    } else {
+        b + 1
+    };
+    let union = (from..to).fold([0; 8], |u, k| either(&u, &sets.accessed[k]));
+    both(&both(&sets.useful[a], &union), &sets.struck)
+}
+
+fn length(t: &Task, sets: &Sets, a: usize, b: usize) -> u64 {
+    let times: u64 = t.times[a..b].iter().sum();
+    let whole = times + t.r * ones(&loaded(sets, a, b));
+    if has("lengths in 32 bits") {
+        whole as u32 as u64
+    } else {
+        whole
+    }
+}
+
+fn within(t: &Task, sets: &Sets, a: usize, b: usize) -> bool {
+    let times: u64 = t.times[a..b].iter().sum();
+    match bug() {
+        "Q without reloads" => times <= t.q,
+        "below Q only" => length(t, sets, a, b) < t.q,
+        "last stretch not tested" => b == t.n && a > 0 || length(t, sets, a, b) <= t.q,
+        _ => length(t, sets, a, b) <= t.q,
+    }
+}
+
+fn cuts(t: &Task, points: &[usize]) -> Vec<(usize, usize)> {
+    let starts = [0].into_iter().chain(points.iter().copied());
+    let ends = points.iter().copied().chain([t.n]);
+    starts.zip(ends).collect()
+}
+
+fn lines_and_price(t: &Task, sets: &Sets, points: &[usize]) -> (u64, u64) {
+    let all: Vec<Words> = cuts(t, points)
+        .iter()
+        .map(|&(a, b)| loaded(sets, a, b))
+        .collect();
+    let mut lines: u64 = all.iter().map(ones).sum();
+    if has("a line counted once for the task") {
+        lines = ones(&all.iter().fold([0; 8], |u, w| either(&u, w)));
+    }
+    if has("lines in eight bits") {
+        lines %= 256;
+    }
+    let price = match bug() {
+        "price without R" => lines,
+        "price in 32 bits" => (t.r * lines) as u32 as u64,
+        _ => t.r * lines,
+    };
+    (lines, price)
+}
+
+/// From the end: the least price after each edge, and the next cut.
+fn choose(t: &Task, sets: &Sets) -> Option<Vec<usize>> {
+    let n = t.n;
+    match bug() {
+        "6 to all" => return None,
+        "all points" => {
+            let points: Vec<usize> = (1..n).collect();
+            return cuts(t, &points)
+                .iter()
+                .all(|&(a, b)| within(t, sets, a, b))
+                .then_some(points);
+        }
+        "one cut and on to N" if !within(t, sets, 0, n) => {
+            return (1..n).find(|&p| within(t, sets, 0, p)).map(|p| vec![p]);
+        }
+        "6 only where one time exceeds Q" => {
+            if t.times.iter().any(|&x| x > t.q) {
+                return None;
+            }
+        }
+        "longest stretch first" => {
+            let mut points = Vec::new();
+            let mut a = 0;
+            while a < n {
+                let b = (a + 1..=n).rev().find(|&b| within(t, sets, a, b))?;
+                if b < n {
+                    points.push(b);
+                }
+                a = b;
+            }
+            return Some(points);
+        }
+        _ => {}
+    }
+    let mut best: Vec<Option<(u64, usize)>> = vec![None; n + 1];
+    best[n] = Some((0, n));
+    for a in (0..n).rev() {
+        for b in a + 1..=n {
+            let Some((rest, _)) = best[b] else { continue };
+            if !within(t, sets, a, b) || (has("stretches of at most 40 blocks") && b - a > 40) {
+                continue;
+            }
+            let own = match bug() {
+                "fewest points" => 1,
+                "one reload price per point in the choice only" => {
+                    t.r * ones(&both(&sets.useful[a], &sets.struck))
+                }
+                "a line once for the task in the choice only" => {
+                    let next = best[b].map_or(b, |(_, next)| next);
+                    let later = if next > b {
+                        loaded(sets, b, next)
+                    } else {
+                        [0; 8]
+                    };
+                    let here = loaded(sets, a, b);
+                    t.r * (ones(&here) - ones(&both(&here, &later)))
+                }
+                _ => t.r * ones(&loaded(sets, a, b)),
+            };
+            if best[a].is_none_or(|(least, _)| own + rest < least) {
+                best[a] = Some((own + rest, b));
+            }
+        }
+    }
+    if best[0].is_none() && has("6 only where one time exceeds Q") {
+        return Some((1..n).collect());
+    }
+    best[0]?;
+    let mut points = Vec::new();
+    let mut a = best[0].unwrap().1;
+    while a < n {
+        points.push(a);
+        a = best[a].unwrap().1;
+    }
+    if has("at most 62 points") && points.len() > 62 {
+        return None;
+    }
+    Some(points)
+}
+
+fn points_refusal(points: &[usize], n: usize) -> Option<usize> {
+    if has("7 at the highest index") && points.last().is_some_and(|&p| p >= n) {
+        return Some(points.len() - 1);
+    }
+    (0..points.len())
+        .find(|&i| points[i] == 0 || points[i] >= n || (i > 0 && points[i] <= points[i - 1]))
+}
+
+fn read_points(b: &[u8], n: usize) -> Result<Vec<usize>, u32> {
+    let place = if has("97 forgotten") { 0 } else { 97 };
+    if b.len() != 512 {
+        return Err(code(1, place));
+    }
+    if check(b) != get32(b, 508) {
+        return Err(code(2, place));
+    }
+    let wrong = Err(code(5, place));
+    let (own, count) = (get16(b, 2), get16(b, 4));
+    let most = if has("count 63 refused") { 62 } else { 63 };
+    if b[0] != 4
+        || (b[1] != 0 && !has("byte 1 not looked at"))
+        || get32(b, 504) != 0
+        || own < 1
+        || own > 64
+        || count > most
+    {
+        return wrong;
+    }
+    if has("other N in the block refused") && own != n {
+        return wrong;
+    }
+    let wide = if has("points in eight bits") {
+        256
+    } else {
+        65536
+    };
+    let points: Vec<usize> = (0..count).map(|i| get16(b, 20 + 2 * i) % wide).collect();
+    if !has("points not looked at with the block's N") && points_refusal(&points, own).is_some() {
+        return wrong;
+    }
+    if !has("bytes after the points not looked at") && !zeros(b, 20 + 2 * count) {
+        return wrong;
+    }
+    Ok(points)
+}
+
+fn store(t: &Task, sets: &Sets, points: &[usize], first: Option<&[u8]>, out: &mut [u8]) {
+    if has("nothing written") {
+        return;
+    }
+    let (lines, price) = lines_and_price(t, sets, points);
+    let mut b = [0; 512];
+    let n = match first {
+        Some(f) if has("N of the first block stored") => get16(f, 2),
+        _ => t.n,
+    };
+    let id = match first {
+        Some(f) if has("id of the first block stored") => get32(f, 16),
+        _ => t.id,
+    };
+    b[0] = 4;
+    b[2..4].copy_from_slice(&(n as u16).to_le_bytes());
+    b[4..6].copy_from_slice(&(points.len() as u16).to_le_bytes());
+    b[6..8].copy_from_slice(&(lines as u16).to_le_bytes());
+    b[8..16].copy_from_slice(&price.to_le_bytes());
+    b[16..20].copy_from_slice(&id.to_le_bytes());
+    if let (Some(f), true) = (first, has("lines and price of the first block stored")) {
+        b[6..16].copy_from_slice(&f[6..16]);
+    }
+    for (i, &p) in points.iter().enumerate() {
+        b[20 + 2 * i..22 + 2 * i].copy_from_slice(&(p as u16).to_le_bytes());
+    }
+    if has("bytes after the points left") {
+        b[20 + 2 * points.len()..504].copy_from_slice(&out[20 + 2 * points.len()..504]);
+    }
+    if !has("check not stored") {
+        let h = check(&b);
+        b[508..].copy_from_slice(&h.to_le_bytes());
+    }
+    out[..512].copy_from_slice(&b);
+}
+
+fn broken(
+    file_at: *const u8,
+    file_len: usize,
+    call: &Call,
+    out_at: *mut u8,
+    out_len: usize,
+) -> u32 {
+    match (bug(), call) {
+        ("one byte written after the output", _) => unsafe {
+            out_at.add(out_len).write_volatile(1)
+        },
+        ("one byte written before the output", _) => unsafe {
+            let at = out_at.sub(1);
+            at.write_volatile(at.read_volatile() ^ 1)
+        },
+        ("file written", _) if file_len > 0 => unsafe {
+            let at = file_at as *mut u8;
+            at.write_volatile(at.read_volatile())
+        },
+        ("points written", Call::Price(p)) if !p.is_empty() => unsafe {
+            let at = p.as_ptr() as *mut u8;
+            at.write_volatile(at.read_volatile())
+        },
+        ("file read beyond its end", _) => unsafe {
+            file_at.add(file_len).read_volatile();
+        },
+        ("file read before its start", _) => unsafe {
+            file_at.sub(1).read_volatile();
+        },
+        ("points read beyond their end", Call::Price(p)) => unsafe {
+            p.as_ptr().add(p.len()).read_volatile();
+        },
+        _ => {}
+    }
+    let file = slice(file_at, file_len);
+    let out = slice_mut(out_at, out_len);
+    match broken_answer(file, call, out) {
+        Ok(()) => 0,
+        Err(code) => {
+            if has("output cleared on any refusal") {
+                out.fill(0);
+            }
+            code
+        }
+    }
+}
+
+fn broken_answer(file: &[u8], call: &Call, out: &mut [u8]) -> Result<(), u32> {
+    let right_out = out.len() == call.out_len()
+        || (has("512 or more as output") && call.out_len() == 512 && out.len() > 512);
+    if !right_out && !has("9 last") {
+        return Err(code(9, 0));
+    }
+    if let (Call::Price(block), true) = (call, has("points looked at before the file")) {
+        read_points(block, 0)?;
+    }
+    let t = read(file)?;
+    let sets = sets(&t);
+    let last = |out: &[u8]| {
+        if out.len() == call.out_len() || right_out {
+            Ok(())
+        } else {
+            Err(code(9, 0))
+        }
+    };
+    match *call {
+        Call::Plan => match choose(&t, &sets) {
+            Some(points) => {
+                last(out)?;
+                store(&t, &sets, &points, None, out);
+                Ok(())
+            }
+            None => {
+                if has("written on refusal 6") && out.len() >= 512 {
+                    store(&t, &sets, &[], None, out);
+                }
+                Err(code(6, 0))
+            }
+        },
+        Call::Price(block) => {
+            let points = read_points(block, t.n)?;
+            let above = |points: &[usize]| {
+                let cuts = cuts(&t, points);
+                if has("8 at the highest stretch") {
+                    return cuts.iter().rposition(|&(a, b)| !within(&t, &sets, a, b));
+                }
+                cuts.iter().position(|&(a, b)| !within(&t, &sets, a, b))
+            };
+            if has("7 after 8") {
+                let end = points_refusal(&points, t.n).unwrap_or(points.len());
+                let early = cuts(&t, &points[..end]);
+                if let Some(i) = early[..end]
+                    .iter()
+                    .position(|&(a, b)| !within(&t, &sets, a, b))
+                {
+                    return Err(code(8, i));
+                }
+            }
+            if let Some(i) = points_refusal(&points, t.n) {
+                return Err(code(7, i));
+            }
+            if let Some(i) = above(&points) {
+                if has("written on refusal 8") && out.len() >= 512 {
+                    store(&t, &sets, &points, None, out);
+                }
+                return Err(code(8, if has("8 always at stretch 0") { 0 } else { i }));
+            }
+            last(out)?;
+            store(&t, &sets, &points, Some(block), out);
+            Ok(())
+        }
+        Call::Useful(k) => {
+            let k = if has("k in 32 bits") {
+                k as u32 as usize
+            } else {
+                k
+            };
+            if k > t.n {
+                return Err(code(7, 0));
+            }
+            last(out)?;
+            hand_out(&sets.useful[k], None, out);
+            Ok(())
+        }
+        Call::Region(a, b) => {
+            if a >= b || b > t.n {
+                return Err(code(7, 0));
+            }
+            last(out)?;
+            hand_out(&loaded(&sets, a, b), Some(length(&t, &sets, a, b)), out);
+            Ok(())
+        }
+    }
+}
+
+fn hand_out(set: &Words, length: Option<u64>, out: &mut [u8]) {
+    for (place, word) in out.chunks_mut(8).zip(set.iter().copied().chain(length)) {
+        place.copy_from_slice(&word.to_le_bytes());
+    }
+}

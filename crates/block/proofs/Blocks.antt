@@ -155,3 +155,12 @@ lowest-at f a zero k h l t e = absurd (omega arith)
 lowest-at f a (suc n) k h l t e =
     by-cases (ℕ-discrete a k) (λ s. rw (s, e))
     (λ s. rw (t a (omega arith) (omega arith)) (lowest-at f (suc a) n k (omega arith) (omega arith) (λ i j m. t i (omega arith) m) e))
+
+pub lowest-within : (f : ℕ → Bool) (a n k : ℕ) → lowestFrom f a n ≡ At k → k < a + n
+unfolding lowestFrom
+lowest-within f a zero k e = let z : _≡_ {A = ℕ} 0 1 = cc in absurd (omega arith)
+lowest-within f a (suc n) k e = go (f a) e (lowest-within f (suc a) n k)
+  where
+    go : (b : Bool) → cond b (lowestFrom f (suc a) n) (At a) ≡ At k → (lowestFrom f (suc a) n ≡ At k → k < suc a + n) → k < a + suc n
+    go true q ih = omega (arith, ih q)
+    go false q ih = let s : a ≡ k = cc in omega arith

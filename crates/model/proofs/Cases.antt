@@ -1,7 +1,7 @@
 -- Every case of `cases` holds: a test that antt computes over the whole list, and one law that takes a passed test to the claim. A claim about
 -- every list of points is tested on the enumeration of all of them. Assumes nothing.
 use Prim.Native.Nat.{ℕ, zero, suc, _<_, _≤_}
-use mathlib.Core.Path.{_≡_, refl, sym, ap, _∙_, subst}
+use mathlib.Core.Path.{_≡_, refl, sym, ap, _∙_}
 use mathlib.Core.Bool.{Bool, true, false, not, _&&_, _||_, Bool·beq, false≢true}
 use mathlib.Core.Logic.{by-cases}
 use mathlib.Core.List.{List, [], _∷_, List·Memᴰ, List·Memᴰ·head, List·Memᴰ·tail}
@@ -9,14 +9,14 @@ use native.Mathlib.Omega.{arith}
 use native.Mathlib.Decide.{ℕ-discrete, decLe}
 use native.Mathlib.Nat.{le-of-eq, le-trans}
 use lib.Dec.{eqb, ltb, leb}
-use borrow.Author.Tests.{eqb-true, leb-true, leb-false, le-leb, ltb-true, not-true}
+use borrow.Author.Tests.{eqb-true, le-leb, ltb-true, not-true}
 use Rattle.model.specs.Sets.{Lines, countBelow}
 use Rattle.model.specs.Task.{Task, blockCount}
 use Rattle.model.specs.Lines.{lineOf, onLine, lastRead, firstRead, anyRead, readsOf, preempterReads, blockAt, stateAfter, nextRead, useful, accessed, accessedUseful, evicted}
 use Rattle.model.specs.Lists.{steps, regions, every, total, lowest, wellFormed, among, sameList, risingLists, allLists}
-use Rattle.model.specs.Regions.{unionAfter, timeAfter, loaded, regionLines, regionLength, regionFits, regionCost, lines, cost, fits, BestList}
+use Rattle.model.specs.Regions.{unionAfter, timeAfter, loaded, regionLines, regionLength, regionFits, regionCost, lines, cost, fits}
 use Rattle.model.specs.Answers.{accepted, pricing, number, place}
-use Rattle.model.specs.Cases.{Case, usefulAre, accessedUsefulAre, loadedAre, lengthIs, bestAre, fittingAre, noneFits, priced, refused, lineIs, listed, Are, Holds, cases}
+use Rattle.model.specs.Cases.{Case, usefulAre, accessedUsefulAre, loadedAre, lengthIs, bestAre, fittingAre, noneFits, priced, refused, lineIs, listed, Holds, cases}
 use Rattle.model.specs.declared.Refusal.{Refusal}
 use Rattle.model.specs.declared.Verdict.{Verdict}
 use Rattle.model.specs.declared.Verdict.the-variants.{Accepted, Refused}

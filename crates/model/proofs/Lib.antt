@@ -4,4 +4,5 @@ pub mod LineStates
 pub mod ReadOrder
 pub mod Lists
 pub mod Regions
+pub mod Places
 pub mod Cases

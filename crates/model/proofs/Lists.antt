@@ -1,17 +1,17 @@
 -- Laws of lists of points: the test that two are the same, and the enumeration, which has every well-formed list and no other.
 -- Assumes nothing.
-use Prim.Native.Nat.{ℕ, zero, suc, _+_, _-_, _<_, _≤_}
+use Prim.Native.Nat.{ℕ, zero, suc, _+_, _-_, _<_}
 use mathlib.Core.Path.{_≡_, refl, sym, ap, ap₂, _∙_}
-use mathlib.Core.Bool.{Bool, true, false, _&&_, _||_, and-assoc, or-assoc, or-false, and-false, false≢true}
+use mathlib.Core.Bool.{Bool, true, false, cond, _&&_, _||_, and-assoc, or-assoc, or-false, and-false, false≢true}
 use mathlib.Core.Logic.{_↔_}
 use mathlib.Core.List.{List, [], _∷_, _++_, map}
 use native.Mathlib.Omega.{arith}
 use native.Mathlib.Decide.{ℕ-discrete}
 use lib.Dec.{eqb, ltb}
-use lib.ListN.{length}
+use lib.ListN.{length, getD}
 use borrow.Author.Tests.{eqb-true, eqb-false, eq-eqb, ne-eqb, ltb-true, ltb-false, lt-ltb, le-ltb}
 use Rattle.model.specs.Lists.{Region, steps, every, rightPoint, wellFormed, sameList, among, risingLists, allLists, lowest}
-use Rattle.model.specs.declared.Place.the-variants.{Nowhere}
+use Rattle.model.specs.declared.Place.the-variants.{Nowhere, At}
 
 pub and-split : (a b : Bool) → (a && b) ≡ true → (a ≡ true) × (b ≡ true)
 and-split true b h = (refl, h)
@@ -105,3 +105,31 @@ lowest-none f i [] h = refl
 lowest-none f i (r ∷ rs) h =
     let both = and-split (f (r .from) (r .to)) (every f rs) h in
     rw (both .0) (lowest-none f (suc i) rs (both .1))
+
+pub none-lowest : (f : ℕ → ℕ → Bool) (i : ℕ) (rs : List Region) → lowest f i rs ≡ Nowhere → every f rs ≡ true
+unfolding every lowest
+none-lowest f i [] e = refl
+none-lowest f i (r ∷ rs) e = go (f (r .from) (r .to)) e (none-lowest f (suc i) rs)
+  where
+    go : (b : Bool) → cond b (lowest f (suc i) rs) (At i) ≡ Nowhere → (lowest f (suc i) rs ≡ Nowhere → every f rs ≡ true)
+        → (b && every f rs) ≡ true
+    go true q ih = ih q
+    go false q ih = let z : _≡_ {A = ℕ} 0 1 = cc in absurd (omega arith)
+
+-- a well-formed list has fewer points than the task has blocks, and each is right after the one before it
+
+pub rising-short : (n a : ℕ) (ps : List ℕ) → a < n → every (rightPoint n) (steps a ps) ≡ true → a + length ps < n
+unfolding every steps
+rising-short n a [] h e = omega arith
+rising-short n a (p ∷ ps) h e =
+    let both = and-split (rightPoint n a p) (every (rightPoint n) (steps p ps)) e in
+    let right = and-split (ltb a p) (ltb p n) (both .0) in
+    omega (arith, ltb-true a p (right .0), rising-short n p ps (ltb-true p n (right .1)) (both .1))
+
+pub point-right : (n a : ℕ) (ps : List ℕ) (i : ℕ) → every (rightPoint n) (steps a ps) ≡ true → i < length ps
+    → rightPoint n (getD (a ∷ ps) i 0) (getD ps i 0) ≡ true
+unfolding every steps
+point-right n a [] i e h = absurd (omega arith)
+point-right n a (p ∷ ps) zero e h = and-split (rightPoint n a p) (every (rightPoint n) (steps p ps)) e .0
+point-right n a (p ∷ ps) (suc i) e h =
+    point-right n p ps i (and-split (rightPoint n a p) (every (rightPoint n) (steps p ps)) e .1) (omega arith)

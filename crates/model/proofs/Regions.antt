@@ -8,12 +8,15 @@ use native.Mathlib.Nat.{mul-zero, mul-add}
 use native.Mathlib.Omega.{arith}
 use lib.ListN.{length}
 use Rattle.model.specs.Task.{Task, blockCount}
-use Rattle.model.specs.Lists.{Region, steps, regions, total, rightPoint, wellFormed}
-use Rattle.model.specs.Regions.{loaded, regionLines, regionFits, regionCost, lines, cost, fits}
-use Rattle.model.specs.Answers.{pricing}
+use Rattle.model.specs.Lists.{Region, steps, regions, total, rightPoint, wellFormed, wrongPoint}
+use Rattle.model.specs.Regions.{loaded, regionLines, regionFits, regionCost, lines, cost, fits, regionAbove}
+use Rattle.model.specs.Answers.{refusedAt, pricing}
+use Rattle.model.specs.declared.Place.{Place}
+use Rattle.model.specs.declared.Place.the-variants.{Nowhere, At}
+use Rattle.model.specs.declared.Refusal.the-variants.{Argument, AboveLimit}
 use Rattle.model.specs.declared.Verdict.the-variants.{Accepted}
 use Rattle.model.proofs.Digits.{count-le}
-use Rattle.model.proofs.Lists.{lowest-none}
+use Rattle.model.proofs.Lists.{lowest-none, none-lowest}
 
 scaled : (t : Task) (rs : List Region) → total (regionCost t) rs ≡ t .reload * total (regionLines t) rs
 unfolding total regionCost
@@ -43,3 +46,11 @@ lines-most t ps = lines-from t (blockCount t) 0 ps
 pub fits-accepted : (t : Task) (ps : List ℕ) → wellFormed (blockCount t) ps ≡ true → fits t ps ≡ true → pricing t ps ≡ Accepted
 fits-accepted t ps w f =
     rw (lowest-none (rightPoint (blockCount t)) 0 (steps 0 ps) w, lowest-none (regionFits t) 0 (regions (blockCount t) 0 ps) f) refl
+
+-- and no list that is not well formed
+pub accepted-well-formed : (t : Task) (ps : List ℕ) → pricing t ps ≡ Accepted → wellFormed (blockCount t) ps ≡ true
+accepted-well-formed t ps e = none-lowest (rightPoint (blockCount t)) 0 (steps 0 ps) (go (wrongPoint (blockCount t) ps) e)
+  where
+    go : (p : Place) → refusedAt p Argument (refusedAt (regionAbove t ps) AboveLimit Accepted) ≡ Accepted → p ≡ Nowhere
+    go Nowhere q = refl
+    go (At i) q = let z : _≡_ {A = ℕ} 0 1 = cc in absurd (omega arith)

@@ -6,7 +6,7 @@ use lib.Dec.{leb}
 use Rattle.model.specs.Sets.{Lines, size}
 use Rattle.model.specs.Task.{Task, blockCount}
 use Rattle.model.specs.Lines.{useful, accessedUseful, evicted, blockAt}
-use Rattle.model.specs.Lists.{regions, total, lowest, wellFormed, listFits, listCost, LeastCost, NoneFits}
+use Rattle.model.specs.Lists.{regions, total, lowest, listFits, listCost, LeastCost, NoneFits}
 use Rattle.model.specs.declared.Place.{Place}
 
 -- the union of s(a + 1) to s(a + n)

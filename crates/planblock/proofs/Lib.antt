@@ -2,3 +2,4 @@ pub mod Storing
 pub mod Reading
 pub mod Verdicts
 pub mod Roundtrip
+pub mod Lists

@@ -7,7 +7,7 @@ use mathlib.Core.List.{List, [], _++_, append-nil}
 use native.Mathlib.Omega.{arith}
 use lib.Dec.{eqb}
 use lib.ListN.{length, getD, take, drop, replicate, length-append, length-drop, length-replicate, getD-replicate, take-append-drop}
-use lib.Seq.{take-at, take-take, getD-take, getD-drop, length-take-le, ext-getD}
+use lib.Seq.{take-at, drop-at, take-take, getD-take, getD-drop, length-take-le, ext-getD}
 use mir.Syntax.{w16}
 use mir.Val.{Fits}
 use borrow.Author.Tests.{eqb-true, eq-eqb, le-ltb}
@@ -19,7 +19,7 @@ use Rattle.model.specs.declared.Verdict.the-variants.{Accepted, Refused}
 use Rattle.model.proofs.Lists.{and-split}
 use Rattle.block.specs.Bytes.{le, les, field, fields}
 use Rattle.block.specs.Blocks.{numbered, checksumRight, bodyRight}
-use Rattle.block.proofs.Bytes.{length-le, field-le, field-take, fields-les, fields-take}
+use Rattle.block.proofs.Bytes.{length-le, field-le, field-take, length-fields, fields-les, fields-take}
 use Rattle.block.proofs.Blocks.{length-numbered, length-sealed, checksum-sealed, body-sealed, block-named, block-is, lowest-nowhere}
 use Rattle.planblock.specs.Plans.{entryRight, planVerdict, planHead, planNamed, planBytes, planOf, planRight, readVerdict, storeVerdict, stored, PlanFits}
 use Rattle.planblock.proofs.Storing.{length-head, length-named}
@@ -124,6 +124,11 @@ store-back bs e =
     let parts = read-parts bs e in
     let right = and-split (accepted (planVerdict (planOf bs))) (bodyRight 0 (planNamed (planOf bs)) bs) (parts .1) in
     (is-accepted (planVerdict (planOf bs)) (right .0), sym (block-is 0 (planNamed (planOf bs)) bs (parts .0) (right .1)))
+
+-- the points of a block's plan are followed by zeros
+pub zeros-after : (bs : List ℕ) → drop (planOf bs .count) (planOf bs .points) ≡ replicate (64 - planOf bs .count) 0
+unfolding planOf
+zeros-after bs = drop-at (fields bs 20 2 (field bs 4 2)) (replicate (64 - field bs 4 2) 0) (field bs 4 2) (length-fields bs 20 2 (field bs 4 2))
 
 -- the same of the calls: what `store` leaves in a buffer, `read` reads back, and what was read is stored as it was
 

@@ -5,19 +5,21 @@ use mathlib.Core.Path.{_≡_, refl}
 use mathlib.Core.Bool.{Bool, true, false, cond, _&&_, and-false}
 use mathlib.Core.List.{List}
 use native.Mathlib.Omega.{arith}
-use lib.Dec.{leb}
+use lib.Dec.{eqb, leb}
+use lib.ListN.{length}
 use borrow.Author.Tests.{leb-true, lt-leb}
 use Rattle.model.specs.Answers.{refusedAt}
 use Rattle.model.specs.declared.Place.{Place}
 use Rattle.model.specs.declared.Place.the-variants.{Nowhere, At}
 use Rattle.model.specs.declared.Plan.{Plan}
 use Rattle.model.specs.declared.Refusal.{Refusal}
-use Rattle.model.specs.declared.Refusal.the-variants.{Argument}
+use Rattle.model.specs.declared.Refusal.the-variants.{Length, Checksum, Block as WrongBlock, Argument}
 use Rattle.model.specs.declared.Verdict.the-variants.{Accepted, Refused}
 use Rattle.model.proofs.Lists.{and-split}
+use Rattle.model.proofs.Places.{placeIn}
 use Rattle.block.specs.Bytes.{field}
-use Rattle.block.specs.Blocks.{lowestFrom}
-use Rattle.planblock.specs.Plans.{entryRight, planInRange, planVerdict, planOf, planRight}
+use Rattle.block.specs.Blocks.{checksumRight, lowestFrom}
+use Rattle.planblock.specs.Plans.{entryRight, planInRange, planVerdict, planOf, planRight, readVerdict}
 
 pub not-both : {r : Refusal} → Refused r ≡ Accepted → ⊥
 not-both q = let z : _≡_ {A = ℕ} 0 1 = cc in omega arith
@@ -45,3 +47,14 @@ count-accepted p e = leb-true (p .count) 63 (and-split (leb 1 (p .blocks) && leb
 pub count-wrong : (bs : List ℕ) → 63 < field bs 4 2 → planRight bs ≡ false
 unfolding planRight planVerdict planInRange planOf
 count-wrong bs h = rw (lt-leb (field bs 4 2) 63 h, and-false)
+
+-- a read's refusals are all at place 0
+pub read-place : (bs : List ℕ) → placeIn (readVerdict bs) ≡ 0
+unfolding readVerdict placeIn
+read-place bs = go (eqb (length bs) 512) (checksumRight bs) (planRight bs)
+  where
+    go : (a b c : Bool) → placeIn (cond a (cond b (cond c Accepted (Refused (WrongBlock 0))) (Refused (Checksum 0))) (Refused Length)) ≡ 0
+    go true true true = refl
+    go true true false = refl
+    go true false c = refl
+    go false b c = refl

@@ -1,3 +1,4 @@
 pub mod Accepted
 pub mod Frames
 pub mod Roundtrip
+pub mod Places

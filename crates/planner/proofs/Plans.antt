@@ -9,7 +9,7 @@ use native.Mathlib.Omega.{arith}
 use lib.ListN.{length, take, drop, replicate, take-append-drop, length-drop, length-replicate, length-take}
 use Rattle.model.specs.Task.{Task, blockCount}
 use Rattle.model.specs.Regions.{regionFits, regionCost, lines, cost, BestList, NoPlacementFits}
-use Rattle.model.specs.Answers.{pricing, onAccepted}
+use Rattle.model.specs.Answers.{pricing}
 use Rattle.model.specs.Planning.{planFor, noPlan, Planned}
 use Rattle.model.specs.declared.Refusal.{Refusal}
 use Rattle.model.specs.declared.Refusal.the-variants.{NoPlacement}
@@ -23,9 +23,41 @@ use Rattle.regions.specs.declared.Price.{Price}
 pub never : {x : Refusal} → Accepted ≡ Refused x → ⊥
 never e = let z : _≡_ {A = ℕ} 0 1 = cc in omega arith
 
-pub points-long : {table : List ℕ} {n : ℕ} (r : Placement) → n ≤ 64 → Placed table n r → length (r .points) ≡ 64
-points-long r most placed =
-    omega (arith, placed .fewer, length-drop (r .count) (r .points), ap length (placed .beyond), length-replicate {A = ℕ} (64 - r .count) 0)
+-- the first points of an array, zeros after them, and their price: the plan that follows from the list
+module _ (count : ℕ) (points : List ℕ) (few : count ≤ 63) (zeros : drop count points ≡ replicate (64 - count) 0) where
+  pub points-long : length points ≡ 64
+  points-long = omega (arith, length-drop count points, ap length zeros, length-replicate {A = ℕ} (64 - count) 0)
+
+  pub count-is : length (take count points) ≡ count
+  count-is = omega (arith, length-take count points, points-long)
+
+  points-are : points ≡ take count points ++ replicate (64 - length (take count points)) 0
+  points-are =
+      sym (take-append-drop count points) ∙ ap (λ (l : List ℕ). take count points ++ l) zeros ∙
+      ap (λ (n : ℕ). take count points ++ replicate (64 - n) 0) (sym count-is)
+
+  module _ (t : Task) (accepted : pricing t (take count points) ≡ Accepted) (price : Price) (prices : Prices t (take count points) price) where
+    lines-are : price .lines ≡ lines t (take count points)
+    lines-are = prices .lines ∙ rw accepted refl
+
+    cost-is : price .cost ≡ cost t (take count points)
+    cost-is = prices .cost ∙ rw accepted refl
+
+    pub lines-fit : price .lines < 65536
+    lines-fit = omega (arith, lines-are, lines-most t (take count points), count-is)
+
+    pub follows : record { blocks = blockCount t; id = t .id; count = count; lines = price .lines; cost = price .cost; points = points } ≡ planFor t (take count points)
+    unfolding planFor
+    follows =
+        λ i.
+        record {
+          blocks = blockCount t;
+          id = t .id;
+          count = sym count-is i;
+          lines = lines-are i;
+          cost = cost-is i;
+          points = points-are i;
+        }
 
 module _ (t : Task) (table : List ℕ) (r : Placement) (holds : Holds table (blockCount t) (regionFits t) (regionCost t))
     (placed : Placed table (blockCount t) r) where
@@ -46,42 +78,18 @@ module _ (t : Task) (table : List ℕ) (r : Placement) (holds : Holds table (blo
     best : BestList t (take (r .count) (r .points))
     best = placed .least (regionFits t) (regionCost t) holds f
 
-    accepted : pricing t (take (r .count) (r .points)) ≡ Accepted
-    accepted = fits-accepted t (take (r .count) (r .points)) (best .well-formed) (best .fits)
+    list-accepted : pricing t (take (r .count) (r .points)) ≡ Accepted
+    list-accepted = fits-accepted t (take (r .count) (r .points)) (best .well-formed) (best .fits)
 
-    lines-are : price .lines ≡ lines t (take (r .count) (r .points))
-    lines-are = prices .lines ∙ rw accepted refl
-
-    cost-is : price .cost ≡ cost t (take (r .count) (r .points))
-    cost-is = prices .cost ∙ rw accepted refl
-
-    count-is : length (take (r .count) (r .points)) ≡ r .count
-    count-is = omega (arith, placed .fewer, points-long r most placed, length-take (r .count) (r .points))
-
-    pub lines-fit : price .lines < 65536
-    lines-fit = omega (arith, placed .fewer, lines-are, lines-most t (take (r .count) (r .points)), count-is)
-
-    points-are : r .points ≡ take (r .count) (r .points) ++ replicate (64 - length (take (r .count) (r .points))) 0
-    points-are =
-        sym (take-append-drop (r .count) (r .points)) ∙ ap (λ (l : List ℕ). take (r .count) (r .points) ++ l) (placed .beyond) ∙
-        ap (λ (n : ℕ). take (r .count) (r .points) ++ replicate (64 - n) 0) (sym count-is)
+    pub list-lines-fit : price .lines < 65536
+    list-lines-fit = lines-fit (r .count) (r .points) (omega (arith, placed .fewer)) (placed .beyond) t list-accepted price prices
 
     pub list-planned : Planned t Accepted (record { blocks = blockCount t; id = t .id; count = r .count; lines = price .lines; cost = price .cost; points = r .points })
-    unfolding planFor
     list-planned =
         record {
           answers = inl refl;
           best = λ e. best;
-          follows =
-              λ e i.
-              record {
-                blocks = blockCount t;
-                id = t .id;
-                count = sym count-is i;
-                lines = lines-are i;
-                cost = cost-is i;
-                points = points-are i;
-              };
+          follows = λ e. follows (r .count) (r .points) (omega (arith, placed .fewer)) (placed .beyond) t list-accepted price prices;
           none-fits = λ e. absurd (never e);
           exactly = λ none. absurd (none (take (r .count) (r .points)) (best .well-formed) (best .fits));
           empty = λ e. absurd (never e);

@@ -2,21 +2,22 @@
 -- 5 of the file first, then 7, then 6 or 8. Assumes nothing.
 use Prim.Native.Nat.{ℕ}
 use mathlib.Core.Path.{_≡_}
-use mathlib.Core.Bool.{false, cond, _&&_}
+use mathlib.Core.Bool.{Bool, false, cond, not, _&&_}
 use mathlib.Core.List.{List}
 use lib.Dec.{leb, ltb}
-use Rattle.model.specs.Sets.{Lines, words}
+use Rattle.model.specs.Sets.{words}
 use Rattle.model.specs.Task.{blockCount}
 use Rattle.model.specs.Lines.{useful}
 use Rattle.model.specs.Regions.{loaded, regionLength, lines, cost}
-use Rattle.model.specs.Answers.{onAccepted, andThen, pricing}
-use Rattle.model.specs.Planning.{Planned, noPlan}
+use Rattle.model.specs.Answers.{accepted, onAccepted, andThen, pricing}
+use Rattle.model.specs.Planning.{chosen, planFor, noPlan, Planned}
 use Rattle.model.specs.declared.Refusal.{Refusal}
 use Rattle.model.specs.declared.Refusal.the-variants.{Argument}
 use Rattle.model.specs.declared.Verdict.{Verdict}
 use Rattle.model.specs.declared.Verdict.the-variants.{Accepted, Refused}
 use Rattle.model.specs.declared.Plan.{Plan}
 use Rattle.taskfile.specs.File.{verdict, taskOf}
+use Rattle.planblock.specs.Plans.{readVerdict, planOf}
 
 -- the words of a set that a refusal carries
 abbrev pub noWords : List ℕ
@@ -48,6 +49,19 @@ priceLines file ps = onAccepted (priceVerdict file ps) (lines (taskOf file) ps) 
 
 unfoldable pub priceCost : List ℕ → List ℕ → ℕ
 priceCost file ps = onAccepted (priceVerdict file ps) (cost (taskOf file) ps) 0
+
+-- pricing the points of a plan block: the file's refusals, then the block's own, then those of its points; the block's other fields are not
+-- compared with the file
+unfoldable pub blockVerdict : List ℕ → List ℕ → Verdict
+blockVerdict file block = andThen (verdict file) (andThen (readVerdict block) (pricing (taskOf file) (chosen (planOf block))))
+
+-- the refusal is the plan block's own
+unfoldable pub blockRefused : List ℕ → List ℕ → Bool
+blockRefused file block = accepted (verdict file) && not (accepted (readVerdict block))
+
+-- the plan of its points, with the file's N and id
+unfoldable pub blockPlan : List ℕ → List ℕ → Plan
+blockPlan file block = onAccepted (blockVerdict file block) (planFor (taskOf file) (chosen (planOf block))) noPlan
 
 -- planning: the file's refusal, or what planning answers for its task
 pub record PlanAnswer (file : List ℕ) (v : Verdict) (p : Plan) : Type 0 where

@@ -1,14 +1,14 @@
 // The planner's calls. Each takes any bytes and numbers, and answers a value or a refusal.
+ghost use mathlib.Core.Bool.{false};
 ghost use mathlib.Core.Path.{_≡_};
-ghost use lib.ListN.{length, take};
-ghost use Prim.Native.Nat.{_<_, _≤_};
-ghost use Rattle.model.specs.Task.{blockCount};
-ghost use Rattle.model.specs.Answers.{number, place, onAccepted};
-ghost use Rattle.model.specs.Planning.{Planned, noPlan};
+ghost use lib.ListN.{length, drop, replicate};
+ghost use Prim.Native.Nat.{_-_, _<_, _≤_};
+ghost use Rattle.model.specs.Answers.{number, place, onAccepted, pricing};
+ghost use Rattle.model.specs.Planning.{chosen, planFor, noPlan, Planned};
 ghost use Rattle.taskfile.specs.File.{verdict, taskOf};
 ghost use Rattle.planblock.specs.Plans.{storeVerdict, stored, readVerdict, planOf};
 ghost use Rattle.regions.specs.Ready.{Ready};
-ghost use Rattle.planner.specs.Calls.{noWords, usefulVerdict, usefulWords, regionVerdict, loadedWords, lengthOf, priceVerdict, priceLines, priceCost, PlanAnswer};
+ghost use Rattle.planner.specs.Calls.{noWords, usefulVerdict, usefulWords, regionVerdict, loadedWords, lengthOf, priceVerdict, priceLines, priceCost, blockVerdict, blockRefused, blockPlan, PlanAnswer};
 use lineset::LineSet;
 use model::Plan;
 use model::Refusal;
@@ -66,6 +66,13 @@ pub struct RegionLines {
 // A plan of least cost.
 pub struct LeastPlan {
     pub verdict: Verdict,
+    pub plan: Plan,
+}
+
+// The plan of the points of a plan block; `unread` says that the refusal is the block's own.
+pub struct BlockPrice {
+    pub verdict: Verdict,
+    pub unread: bool,
     pub plan: Plan,
 }
 
@@ -171,6 +178,85 @@ pub fn price(file: &[u8], points: &[u16]) -> Price
     let useful = all.useful;
     let accessed = all.accessed;
     regions::price_list(file, &useful, &accessed, all.evicted, points)
+}
+
+// The plan of the points of a plan block, with the file's N and id.
+pub fn price_block(file: &[u8], block: &[u8]) -> BlockPrice
+    ensures { λ r. ⌜ (r .verdict ≡ blockVerdict (now (file .entry)) (now (block .entry))) × (r .unread ≡ blockRefused (now (file .entry)) (now (block .entry))) × (r .plan ≡ blockPlan (now (file .entry)) (now (block .entry))) ⌝ }
+{
+    let checked = taskfile::check(file);
+    let Verdict::Accepted = checked else {
+        return no_block_price(checked, false);
+    };
+    let read = planblock::read(block);
+    let readable = read.verdict;
+    let Verdict::Accepted = readable else {
+        return no_block_price(readable, true);
+    };
+    let all = all_lines(file);
+    let useful = all.useful;
+    let accessed = all.accessed;
+    price_points(file, &useful, &accessed, all.evicted, read.plan)
+}
+
+// The plan of the points that a plan holds, from the lines of the file's edges.
+fn price_points(
+    file: &[u8],
+    useful: &[u64; 520],
+    accessed: &[u64; 520],
+    evicted: LineSet,
+    first: Plan,
+) -> BlockPrice
+    requires { ⌜ Ready (now file) (now useful) (now accessed) evicted ⌝ }
+    requires { ⌜ (first .count ≤ 63) × (drop (first .count) (first .points) ≡ replicate (64 - first .count) 0) ⌝ }
+    ensures { λ r. ⌜ (r .verdict ≡ pricing (taskOf (now (file .entry))) (chosen first)) × (r .unread ≡ false) × (r .plan ≡ onAccepted (pricing (taskOf (now (file .entry))) (chosen first)) (planFor (taskOf (now (file .entry))) (chosen first)) noPlan) ⌝ }
+{
+    let points = first.points;
+    let count = first.count as usize;
+    let price = regions::price_list(file, useful, accessed, evicted, &points[..count]);
+    let verdict = price.verdict;
+    let Verdict::Accepted = verdict else {
+        return no_block_price(verdict, false);
+    };
+    BlockPrice {
+        verdict: Verdict::Accepted,
+        unread: false,
+        plan: plan_of(
+            taskfile::block_count(file),
+            taskfile::id(file),
+            first,
+            price,
+        ),
+    }
+}
+
+// The plan of another plan's points: N and id are the file's.
+fn plan_of(n: usize, id: u32, first: Plan, price: Price) -> Plan
+    requires { ⌜ (n ≤ 64) × (price .lines < 65536) ⌝ }
+    ensures { λ r. ⌜ r ≡ record { blocks = n; id = id; count = first .count; lines = price .lines; cost = price .cost; points = first .points } ⌝ }
+{
+    let points = first.points;
+    Plan {
+        blocks: n as u16,
+        id,
+        count: first.count,
+        lines: price.lines as u16,
+        cost: price.cost,
+        points,
+    }
+}
+
+// What is answered of a block that is not priced.
+fn no_block_price(verdict: Verdict, unread: bool) -> BlockPrice
+    ensures { λ r. ⌜ (r .verdict ≡ verdict) × (r .unread ≡ unread) × (r .plan ≡ noPlan) ⌝ }
+{
+    let none = no_plan(verdict);
+    let plan = none.plan;
+    BlockPrice {
+        verdict,
+        unread,
+        plan,
+    }
 }
 
 // A plan whose list fits and costs least.

@@ -1,11 +1,10 @@
 -- `planner::plan_regions` meets its contract: what the placement found over the table of regions, with its price.
 -- Assumes nothing.
-use mathlib.Core.Path.{_≡_, refl, sym, ap, _∙_}
+use mathlib.Core.Path.{sym}
 use native.Mathlib.Omega.{arith}
-use lib.ListN.{length-take}
 use borrow.Author.Tests.{not-true, not-false}
 use Rattle.taskfile.specs.File.{taskOf}
-use Rattle.planner.proofs.Plans.{points-long, none-planned, list-planned, lines-fit}
+use Rattle.planner.proofs.Plans.{points-long, count-is, none-planned, list-planned, list-lines-fit}
 use borrow.Author.Needs.{needs}
 use Rattle.planner.proofs.plan_regions.Statement.{statement}
 use Rattle.planner.proofs.plan_regions.Tie as tie
@@ -31,10 +30,10 @@ returns c =
     (rw (c .before .before .before .before .before .before .block-count .ensures .0) at (p .ensures)) (not-true (p .result .found) (c .before .if1 .taken)))
 
 array-share-prefix-points : tie.Need-array-share-prefix-points
-array-share-prefix-points c = let p = c .before .before .before .place in omega (arith, points-long (p .result) (c .before .before .before .before .before .block-count .ensures .2) (p .ensures))
+array-share-prefix-points c = let p = c .before .before .before .place in omega (arith, points-long (p .result .count) (p .result .points) (omega (arith, p .ensures .fewer)) (p .ensures .beyond))
 
 slice-aggregate-price-list : tie.Need-slice-aggregate-price-list
-slice-aggregate-price-list c = let p = c .before .before .before .before .place in omega (arith, length-take (p .result .count) (p .result .points), points-long (p .result) (c .before .before .before .before .before .before .block-count .ensures .2) (p .ensures), p .ensures .fewer)
+slice-aggregate-price-list c = let p = c .before .before .before .before .place in sym (count-is (p .result .count) (p .result .points) (omega (arith, p .ensures .fewer)) (p .ensures .beyond))
 
 price-list-requires : tie.Need-price-list-requires
 price-list-requires c κs = search needs
@@ -54,7 +53,7 @@ cast-t23 c =
     let t = taskOf (c .before .before .before .before .before .before .before .before .before .before .before .before .before .args .file .now) in
     let n = c .before .before .before .before .before .before .before .before .before .block-count .ensures in
     record {
-      fits = lines-fit t (c .before .before .before .before .before .before .before .before .before .before .fill-table .last .1 .1 .1 .1 .0) (p .result) (c .before .before .before .before .before .before .before .before .before .before .fill-table .ensures .1) (rw (n .0) at (p .ensures)) (omega arith)
+      fits = list-lines-fit t (c .before .before .before .before .before .before .before .before .before .before .fill-table .last .1 .1 .1 .1 .0) (p .result) (c .before .before .before .before .before .before .before .before .before .before .fill-table .ensures .1) (rw (n .0) at (p .ensures)) (omega arith)
           (not-false (p .result .found) (c .before .before .before .before .if1 .left)) (c .before .before .price-list .result) (c .before .before .price-list .ensures);
     }
 

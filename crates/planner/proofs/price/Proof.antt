@@ -1,10 +1,6 @@
 -- `planner::price` meets its contract, answer by answer.
 -- Assumes nothing.
-use mathlib.Core.Path.{_≡_, refl, sym, ap, _∙_}
-use native.Mathlib.Omega.{arith}
-use borrow.Author.Tests.{lt-ltb, le-ltb, le-leb, lt-leb}
-use Rattle.model.specs.Task.{blockCount}
-use Rattle.taskfile.specs.File.{taskOf}
+use mathlib.Core.Path.{refl, sym, _∙_}
 use Rattle.planner.specs.Calls.{priceVerdict, priceLines, priceCost}
 use borrow.Author.Needs.{needs}
 use Rattle.planner.proofs.price.Statement.{statement}

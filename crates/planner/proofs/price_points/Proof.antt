@@ -1,0 +1,80 @@
+-- `planner::price_points` meets its contract: the price of the list, and the plan that follows from it.
+-- Assumes nothing.
+use mathlib.Core.Path.{refl, sym, _∙_}
+use native.Mathlib.Omega.{arith}
+use Rattle.taskfile.specs.File.{taskOf}
+use Rattle.planner.proofs.Plans.{points-long, count-is, lines-fit, follows}
+use borrow.Author.Needs.{needs}
+use Rattle.planner.proofs.price_points.Statement.{statement}
+use Rattle.planner.proofs.price_points.Tie as tie
+
+cast-count : tie.Need-cast-count
+cast-count c = search needs
+
+array-share-prefix-points : tie.Need-array-share-prefix-points
+array-share-prefix-points c = let first = c .before .before .before .args .first in omega (arith, points-long (first .count) (first .points) (search needs) (search needs))
+
+slice-aggregate-price-list : tie.Need-slice-aggregate-price-list
+slice-aggregate-price-list c = let first = c .before .before .before .before .args .first in sym (count-is (first .count) (first .points) (search needs) (search needs))
+
+price-list-requires : tie.Need-price-list-requires
+price-list-requires c κs = search needs
+
+enum-told : tie.Need-enum-told
+enum-told c = search needs
+
+enum-told-2 : tie.Need-enum-told-2
+enum-told-2 c = search needs
+
+no-block-price-requires : tie.Need-no-block-price-requires
+no-block-price-requires c κs = search needs
+
+returns : tie.Need-returns
+returns c =
+    let price = c .before .before .before .price-list in
+    let told = c .before .enum-told2 .given .1 in
+    let answers = c .no-block-price .ensures in
+    rw (answers .0, answers .1, answers .2, ← price .ensures .verdict, told) (refl, refl, refl)
+
+block-count-requires : tie.Need-block-count-requires
+block-count-requires c κs = search needs
+
+id-requires : tie.Need-id-requires
+id-requires c κs = search needs
+
+plan-of-requires : tie.Need-plan-of-requires
+plan-of-requires c κs =
+    let start = c .before .before .before .before .before .before .before .before .before in
+    let first = start .args .first in
+    let price = c .before .before .before .before .price-list in (
+      c .before .block-count .ensures .2,
+      lines-fit (first .count) (first .points) (search needs) (search needs) (taskOf (start .args .file .now))
+          (sym (price .ensures .verdict) ∙ c .before .before .enum-told .given .1) (price .result) (price .ensures),
+    )
+
+returns-2 : tie.Need-returns-2
+returns-2 c =
+    let start = c .before .before .before .before .before .before .before .before .before .before in
+    let first = start .args .first in
+    let price = c .before .before .before .before .before .price-list in
+    let t = taskOf (start .args .file .now) in
+    let accepted = sym (price .ensures .verdict) ∙ c .before .before .before .enum-told .given .1 in
+    rw (accepted, c .plan-of .ensures, c .before .before .block-count .ensures .0, c .before .id .ensures)
+    (refl, refl, follows (first .count) (first .points) (search needs) (search needs) t accepted (price .result) (price .ensures))
+
+pub price-points-spec : {M : Type 1} → statement M
+price-points-spec =
+    tie.close
+    (tie.spec
+    cast-count
+    array-share-prefix-points
+    slice-aggregate-price-list
+    price-list-requires
+    enum-told
+    enum-told-2
+    no-block-price-requires
+    returns
+    block-count-requires
+    id-requires
+    plan-of-requires
+    returns-2)

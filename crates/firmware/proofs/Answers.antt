@@ -1,0 +1,141 @@
+-- What the planner answers can be returned and stored: its places are at most 97, and an accepted plan fits a block.
+-- Assumes nothing.
+use Prim.Native.Nat.{ℕ, _+_, _≤_}
+use mathlib.Core.Path.{_≡_, refl, sym, ap, _∙_}
+use mathlib.Core.Bool.{true, cond, not, _&&_}
+use mathlib.Core.Logic.{_⊎_, inl, inr}
+use mathlib.Core.List.{List}
+use native.Mathlib.Nat.{add-zero}
+use native.Mathlib.Omega.{arith}
+use lib.ListN.{length, length-take}
+use Rattle.model.specs.Task.{blockCount}
+use Rattle.model.specs.Lists.{wellFormed}
+use Rattle.model.specs.Regions.{NoPlacementFits}
+use Rattle.model.specs.Answers.{place, returned, accepted, onAccepted, andThen, pricing}
+use Rattle.model.specs.Planning.{chosen, planFor, noPlan, Planned}
+use Rattle.model.specs.declared.Plan.{Plan}
+use Rattle.model.specs.declared.Refusal.{Refusal}
+use Rattle.model.specs.declared.Refusal.the-variants.{NoPlacement}
+use Rattle.model.specs.declared.Verdict.{Verdict}
+use Rattle.model.specs.declared.Verdict.the-variants.{Accepted, Refused}
+use Rattle.model.proofs.Regions.{accepted-well-formed}
+use Rattle.model.proofs.Places.{placeIn, then-most, pricing-most}
+use Rattle.taskfile.specs.File.{verdict, taskOf}
+use Rattle.taskfile.proofs.Accepted as files
+use Rattle.taskfile.proofs.Places.{verdict-most}
+use Rattle.planblock.specs.Plans.{planVerdict, planBytes, readVerdict, planOf}
+use Rattle.planblock.proofs.Verdicts.{count-accepted, read-place}
+use Rattle.planblock.proofs.Roundtrip.{store-back}
+use Rattle.planblock.proofs.Lists.{list-stores}
+use Rattle.planner.proofs.Plans.{never}
+use Rattle.planner.specs.Calls.{PlanAnswer, blockVerdict, blockRefused, blockPlan}
+use Rattle.firmware.specs.Calls.{PlanCall, StoredBest}
+
+pub place-of : (v : Verdict) (x : Refusal) → placeIn v ≤ 97 → v ≡ Refused x → place x ≤ 97
+unfolding placeIn
+place-of v x h e = rw e at h
+
+-- the plan of a well-formed list of an accepted file
+stores : (file ps : List ℕ) → verdict file ≡ Accepted → wellFormed (blockCount (taskOf file)) ps ≡ true → planVerdict (planFor (taskOf file) ps) ≡ Accepted
+stores file ps e w =
+    let a = files.accepted file e in
+    let n = files.block-count file in
+    list-stores (taskOf file) ps (omega (arith, a .blocks-least, n)) (omega (arith, a .blocks-most, n)) w
+
+-- planning
+
+pub plan-most : (file : List ℕ) (v : Verdict) (p : Plan) → PlanAnswer file v p → placeIn v ≤ 97
+unfolding placeIn
+plan-most file v p answer = go (verdict file) refl
+  where
+    none : (v ≡ Accepted) ⊎ (v ≡ Refused NoPlacement) → placeIn v ≤ 97
+    none (inl e) = rw e (omega arith)
+    none (inr e) = rw e (omega arith)
+
+    go : (w : Verdict) → verdict file ≡ w → placeIn v ≤ 97
+    go Accepted e = none (answer .planned e .answers)
+    go (Refused x) e = rw (answer .refused x e .0) (rw e at (verdict-most file))
+
+pub plan-stores : (file : List ℕ) (v : Verdict) (p : Plan) → PlanAnswer file v p → v ≡ Accepted → planVerdict p ≡ Accepted
+plan-stores file v p answer a = go (verdict file) refl
+  where
+    go : (w : Verdict) → verdict file ≡ w → planVerdict p ≡ Accepted
+    go Accepted e = rw (answer .planned e .follows a) (stores file (chosen p) e (answer .planned e .best a .well-formed))
+    go (Refused x) e = absurd (never (sym a ∙ answer .refused x e .0))
+
+-- what `leave` does with the answer is what the call promises
+pub plan-call : (file block : List ℕ) (v : Verdict) (p : Plan) (r : ℕ) (left : List ℕ) → length block ≡ 512 → PlanAnswer file v p
+    → r ≡ onAccepted v 0 (returned v + 0) → left ≡ onAccepted v (planBytes p) block → PlanCall file block r left
+plan-call file block v p r left long answer e f =
+    record {
+      output = λ no. absurd (no long);
+      refused = λ l x q. refuses x (answer .refused x q .0);
+      planned = λ l q. let known = answer .planned q in cases known (known .answers);
+    }
+  where
+    refuses : (x : Refusal) → v ≡ Refused x → (r ≡ returned (Refused x)) × (left ≡ block)
+    refuses x a = (e ∙ rw (a, add-zero) refl, f ∙ rw a refl)
+
+    cases : Planned (taskOf file) v p → (v ≡ Accepted) ⊎ (v ≡ Refused NoPlacement)
+        → (NoPlacementFits (taskOf file) × (r ≡ returned (Refused NoPlacement)) × (left ≡ block)) ⊎ (StoredBest (taskOf file) left × (r ≡ 0))
+    cases known (inl a) =
+        inr (
+          record { points = chosen p; best = known .best a; bytes = f ∙ rw a (ap planBytes (known .follows a)) },
+          e ∙ rw a refl,
+        )
+    cases known (inr a) = inl (known .none-fits a, refuses NoPlacement a .0, refuses NoPlacement a .1)
+
+-- pricing
+
+module _ (file points : List ℕ) where
+  -- an accepted answer's parts
+  parts : blockVerdict file points ≡ Accepted
+      → (verdict file ≡ Accepted) × (readVerdict points ≡ Accepted) × (pricing (taskOf file) (chosen (planOf points)) ≡ Accepted)
+  unfolding blockVerdict
+  parts e = go (verdict file) (readVerdict points) e
+    where
+      go : (v w : Verdict) → andThen v (andThen w (pricing (taskOf file) (chosen (planOf points)))) ≡ Accepted
+          → (v ≡ Accepted) × (w ≡ Accepted) × (pricing (taskOf file) (chosen (planOf points)) ≡ Accepted)
+      go Accepted Accepted q = (refl, refl, q)
+      go Accepted (Refused x) q = absurd (never (sym q))
+      go (Refused x) w q = absurd (never (sym q))
+
+  pub block-most : placeIn (blockVerdict file points) ≤ 97
+  unfolding blockVerdict
+  block-most =
+      let p : Plan = planOf points in
+      then-most (verdict file) (andThen (readVerdict points) (pricing (taskOf file) (chosen p))) 97 (verdict-most file)
+      (λ a.
+      then-most (readVerdict points) (pricing (taskOf file) (chosen p)) 97 (omega (arith, read-place points))
+      (λ b. omega (arith, pricing-most (taskOf file) (chosen p), length-take (p .count) (p .points), count-accepted p (store-back points b .0))))
+
+  pub block-stores : blockVerdict file points ≡ Accepted → planVerdict (blockPlan file points) ≡ Accepted
+  unfolding blockPlan
+  block-stores e =
+      let all = parts e in
+      rw e (stores file (chosen (planOf points)) (all .0) (accepted-well-formed (taskOf file) (chosen (planOf points)) (all .2)))
+
+  -- nothing is added to the place of an accepted answer
+  pub block-returned : onAccepted (blockVerdict file points) 0 (returned (blockVerdict file points) + cond (blockRefused file points) 97 0)
+      ≡ returned (blockVerdict file points) + cond (blockRefused file points) 97 0
+  unfolding blockVerdict blockRefused
+  block-returned = go (verdict file) (readVerdict points) (pricing (taskOf file) (chosen (planOf points)))
+    where
+      go : (u v w : Verdict)
+          → onAccepted (andThen u (andThen v w)) 0 (returned (andThen u (andThen v w)) + cond (accepted u && not (accepted v)) 97 0)
+          ≡ returned (andThen u (andThen v w)) + cond (accepted u && not (accepted v)) 97 0
+      go Accepted Accepted Accepted = refl
+      go Accepted Accepted (Refused x) = refl
+      go Accepted (Refused x) w = refl
+      go (Refused x) v w = refl
+
+  -- the plan that is left is that of the points
+  pub block-left : (block : List ℕ) → onAccepted (blockVerdict file points) (planBytes (blockPlan file points)) block
+      ≡ onAccepted (blockVerdict file points) (planBytes (planFor (taskOf file) (chosen (planOf points)))) block
+  unfolding blockPlan
+  block-left block = go (blockVerdict file points)
+    where
+      go : (v : Verdict) → onAccepted v (planBytes (onAccepted v (planFor (taskOf file) (chosen (planOf points))) noPlan)) block
+          ≡ onAccepted v (planBytes (planFor (taskOf file) (chosen (planOf points)))) block
+      go Accepted = refl
+      go (Refused x) = refl

@@ -1,0 +1,72 @@
+// The firmware's C calls: planning and pricing on bytes, the plan in a lent block.
+ghost use mathlib.Core.Bool.{cond};
+ghost use mathlib.Core.Path.{_≡_};
+ghost use Prim.Native.Nat.{_+_, _*_, _≤_};
+ghost use lib.ListN.{length};
+ghost use Rattle.model.specs.Answers.{number, place, onAccepted};
+ghost use Rattle.model.specs.Answers as Answers;
+ghost use Rattle.planblock.specs.Plans.{planVerdict, planBytes};
+ghost use Rattle.firmware.specs.Calls.{PlanCall, priceReturned, priceLeft};
+use model::Plan;
+use model::Refusal;
+use model::Verdict;
+
+// Plans a task file and leaves the plan in the block.
+#[no_mangle]
+pub extern "C" fn preempt_plan(file: &[u8], block: &mut [u8]) -> u32
+    ensures { λ r. ⌜ PlanCall (now (file .entry)) (now (block .entry)) r (now (block .exit)) ⌝ }
+{
+    if block.len() != 512 {
+        return returned(Refusal::Output, 0);
+    }
+    let answer = planner::plan(file);
+    let verdict = answer.verdict;
+    let plan = answer.plan;
+    leave(verdict, 0, plan, block)
+}
+
+// Prices the points of a plan block and leaves their plan in the other block.
+#[no_mangle]
+pub extern "C" fn preempt_price(file: &[u8], points: &[u8], block: &mut [u8]) -> u32
+    ensures { λ r. ⌜ r ≡ priceReturned (now (file .entry)) (now (points .entry)) (now (block .entry)) ⌝ }
+    ensures { λ _. ⌜ now (block .exit) ≡ priceLeft (now (file .entry)) (now (points .entry)) (now (block .entry)) ⌝ }
+{
+    if block.len() != 512 {
+        return returned(Refusal::Output, 0);
+    }
+    let answer = planner::price_block(file, points);
+    let verdict = answer.verdict;
+    let plan = answer.plan;
+    leave(verdict, shift(answer.unread), plan, block)
+}
+
+// Leaves a plan in the block, or answers a refusal with the shift added to its place.
+fn leave(verdict: Verdict, shift: u32, plan: Plan, block: &mut [u8]) -> u32
+    requires { ⌜ (length (now block) ≡ 512) × (shift ≤ 97) × (verdict ≡ Verdict.Accepted → planVerdict plan ≡ Verdict.Accepted) ⌝ }
+    requires { ⌜ ((x : Refusal) → verdict ≡ Verdict.Refused x → place x ≤ 97) ⌝ }
+    ensures { λ r. ⌜ r ≡ onAccepted verdict 0 (Answers.returned verdict + shift) ⌝ }
+    ensures { λ _. ⌜ now (block .exit) ≡ onAccepted verdict (planBytes plan) (now (block .entry)) ⌝ }
+{
+    match verdict {
+        Verdict::Accepted => {
+            planner::store(plan, block);
+            0
+        }
+        Verdict::Refused(refusal) => returned(refusal, shift),
+    }
+}
+
+// What is added to a place: 97 where it is in the first block of pricing.
+fn shift(unread: bool) -> u32
+    ensures { λ r. ⌜ (r ≡ cond unread 97 0) × (r ≤ 97) ⌝ }
+{
+    if unread { 97 } else { 0 }
+}
+
+// What a refusal returns.
+fn returned(refusal: Refusal, shift: u32) -> u32
+    requires { ⌜ (place refusal ≤ 97) × (shift ≤ 97) ⌝ }
+    ensures { λ r. ⌜ r ≡ number refusal * 65536 + place refusal + shift ⌝ }
+{
+    planner::refusal_number(refusal) * 65536 + planner::refusal_place(refusal) as u32 + shift
+}

@@ -1,0 +1,51 @@
+# make, make lib    prove the planner and build its static library
+# make example      build the C example and hold what it prints on File Seven to its file 'expected'
+# make release      the library, its header and how to link them, in one archive
+# make test-c       unpack the release and call it from C
+# make clean        remove all that was built
+
+CC := gcc
+CFLAGS := -O2 -std=c11 -Wall -Wextra -Werror -pedantic -Wconversion
+VERSION := $(shell cat VERSION)
+LIB := target/staticlib/libfirmware.a
+NAME := preempt-$(VERSION)
+RELEASE := target/release/$(NAME)
+UNPACKED := target/test-c/$(NAME)
+
+.PHONY: lib example release test-c clean
+.DELETE_ON_ERROR:
+
+lib: $(LIB)
+
+$(LIB): crates.txt $(shell find crates -name '*.rt' -o -name '*.antt')
+	rt staticlib firmware
+
+target/example/firmware: examples/firmware/main.c include/preempt.h $(LIB)
+	mkdir -p $(@D)
+	$(CC) $(CFLAGS) -Iinclude $< $(LIB) -o $@
+
+example: target/example/firmware
+	$< examples/firmware/seven.bin >target/example/printed
+	diff examples/firmware/expected target/example/printed
+
+$(RELEASE).tar.gz: $(LIB) include/preempt.h docs/LINKING.txt VERSION
+	rm -rf $(RELEASE)
+	mkdir -p $(RELEASE)/lib $(RELEASE)/include
+	cp $(LIB) $(RELEASE)/lib
+	cp include/preempt.h $(RELEASE)/include
+	cp docs/LINKING.txt VERSION $(RELEASE)
+	tar --sort=name --mtime=@0 --owner=0 --group=0 --numeric-owner -C target/release -czf $@ $(NAME)
+
+release: $(RELEASE).tar.gz
+
+test-c: $(RELEASE).tar.gz
+	rm -rf target/test-c
+	mkdir -p target/test-c
+	tar -C target/test-c -xzf $<
+	needs=$$(nm -u $(UNPACKED)/lib/libfirmware.a | sed -n 's/^ *U //p' | sort -u | xargs); \
+	grep -q "needs: $$needs$$" $(UNPACKED)/LINKING.txt || { echo "LINKING.txt does not say that the archive needs: $$needs"; exit 1; }
+	$(CC) $(CFLAGS) -I$(UNPACKED)/include tests/c/release.c $(UNPACKED)/lib/libfirmware.a -o target/test-c/release
+	ulimit -s 128 && env -i target/test-c/release examples/firmware/seven.bin
+
+clean:
+	rm -rf target

@@ -1,0 +1,46 @@
+/* Calls the archive of a release: `release FILE` plans a task file and prices the plan's points, which must give the same block, and
+   tries the refusals that need no file. It prints what went wrong; status 1 if anything did. */
+#include <preempt.h>
+#include <stdio.h>
+#include <string.h>
+
+static int wrong;
+
+static void hold(int right, const char *what) {
+    if (!right) {
+        printf("release: %s\n", what);
+        wrong = 1;
+    }
+}
+
+static int refused(uint32_t returned, uint32_t number, uint32_t place) {
+    return PREEMPT_NUMBER(returned) == number && PREEMPT_PLACE(returned) == place;
+}
+
+int main(int argc, char **argv) {
+    static uint8_t file[PREEMPT_FILE_BYTES_MOST], planned[PREEMPT_BLOCK_BYTES], priced[PREEMPT_BLOCK_BYTES];
+    static uint8_t before[PREEMPT_BLOCK_BYTES];
+    FILE *from = argc == 2 ? fopen(argv[1], "rb") : NULL;
+    if (!from) {
+        printf("usage: release FILE\n");
+        return 2;
+    }
+    size_t len = fread(file, 1, sizeof file, from);
+
+    memset(priced, 85, sizeof priced);
+    memset(before, 85, sizeof before);
+    hold(refused(preempt_plan(NULL, 0, NULL, 0), PREEMPT_OUTPUT, 0), "planning into no block");
+    hold(refused(preempt_plan(NULL, 0, priced, sizeof priced), PREEMPT_LENGTH, 0), "planning no file");
+    hold(refused(preempt_price(NULL, 0, NULL, 0, priced, 511), PREEMPT_OUTPUT, 0), "pricing into 511 bytes");
+    hold(refused(preempt_price(NULL, 0, NULL, 0, priced, sizeof priced), PREEMPT_LENGTH, 0), "pricing no file");
+    hold(refused(preempt_price(file, len, NULL, 0, priced, sizeof priced), PREEMPT_LENGTH, PREEMPT_POINTS_PLACE),
+         "pricing no points");
+    hold(refused(preempt_price(file, len, before, sizeof before, priced, sizeof priced), PREEMPT_CHECKSUM, PREEMPT_POINTS_PLACE),
+         "pricing a block with a wrong checksum");
+    hold(memcmp(priced, before, sizeof priced) == 0, "a refusal changed the block");
+
+    hold(preempt_plan(file, len, planned, sizeof planned) == PREEMPT_OK, "planning the file");
+    hold(preempt_price(file, len, planned, sizeof planned, priced, sizeof priced) == PREEMPT_OK, "pricing the plan's points");
+    hold(memcmp(planned, priced, sizeof planned) == 0, "the two blocks differ");
+    return wrong;
+}

@@ -2,17 +2,17 @@
 -- Assumes nothing.
 use Prim.Native.Nat.{ℕ, zero, suc, _+_, _-_, _*_, _/_, _%_, _^_, _<_, _≤_}
 use mathlib.Core.Path.{_≡_, refl, sym, ap, ap₂, _∙_}
-use mathlib.Core.Bool.{_&&_}
+use mathlib.Core.Bool.{Bool, _&&_}
 use mathlib.Core.List.{List, [], _∷_, _++_, append-assoc}
 use native.Mathlib.Nat.{zero-add, add-zero, suc-add, add-assoc, mul-zero, mul-suc, mul-assoc, mul-comm, pow-suc, div-one, div-div-eq-div-mul}
 use native.Mathlib.Omega.{arith}
 use lib.Arith.{mod-mul}
 use lib.Dec.{eqb}
-use lib.ListN.{length, getD, take, drop, set, replicate, length-append, length-take, length-drop}
+use lib.ListN.{length, getD, take, drop, set, replicate, length-append, length-take, length-drop, length-replicate, replicate-append-replicate}
 use lib.Pow.{pow-add}
 use lib.Seq.{take-length, take-take, take-add, take-at, drop-drop, drop-cons, drop-at, length-take-le, getD-take, getD-drop, take-suc-set, drop-set-lt, append-snoc}
 use Rattle.model.specs.Lists.{sameList}
-use Rattle.model.proofs.Lists.{same-eqb}
+use Rattle.model.proofs.Lists.{same-eqb, same-append}
 use Rattle.block.specs.Bytes.{AllBytes, le, les, value, field, fields}
 
 pow-pos : (w : ℕ) → 0 < 256 ^ w
@@ -209,16 +209,25 @@ put-halves w bs mid new at v h p q =
     let back : drop (at + w) mid ≡ drop (at + w) bs = rw p (drop-at low (drop (at + w) bs) (at + w) l) in
     rw (q, ← drop-drop w (at + w) mid, front, back, drop-drop, le-add, ← append-assoc, add-assoc)
 
--- one more zero
+-- zeros
 
-pub zeros-step : (bs : List ℕ) (i to : ℕ) → i < to → to ≤ length bs
-    → sameList (take (to - i) (drop i bs)) (replicate (to - i) 0)
-    ≡ (eqb (getD bs i 0) 0 && sameList (take (to - suc i) (drop (suc i) bs)) (replicate (to - suc i) 0))
-unfolding sameList
-zeros-step bs i to h k =
-    let s : to - i ≡ suc (to - suc i) = omega arith in
-    let l : i < length bs = omega arith in
-    rw (s, drop-cons bs i 0)
+-- the bytes from i up to to are all zero
+abbrev pub zeros : List ℕ → ℕ → ℕ → Bool
+zeros bs i to = sameList (take (to - i) (drop i bs)) (replicate (to - i) 0)
+
+zeros-le : (w : ℕ) → replicate w 0 ≡ le w 0
+unfolding le
+zeros-le zero = refl
+zeros-le (suc w) = ap (_∷_ 0) (zeros-le w)
+
+-- the next w bytes are one number, which is tested first
+pub zeros-step : (w : ℕ) (bs : List ℕ) (i to : ℕ) → AllBytes bs → i + w ≤ to → to ≤ length bs → zeros bs i to ≡ (eqb (field bs i w) 0 && zeros bs (i + w) to)
+zeros-step w bs i to b h k =
+    let s : to - i ≡ w + (to - (i + w)) = omega arith in
+    let first : sameList (take w (drop i bs)) (replicate w 0) ≡ eqb (field bs i w) 0 =
+    rw zeros-le (same-field bs i w 0 b (omega arith) (pow-pos w)) in
+    rw (s, take-add, drop-drop, ← replicate-append-replicate, ← first)
+    (same-append (take w (drop i bs)) (replicate w 0) _ _ (rw length-replicate (length-part i w bs (omega arith))))
 
 pub clear-step : (bs : List ℕ) (i to : ℕ) → i < to → to ≤ length bs
     → take (suc i) (set bs i 0) ++ replicate (to - suc i) 0 ++ drop to (set bs i 0) ≡ take i bs ++ replicate (to - i) 0 ++ drop to bs

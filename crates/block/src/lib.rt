@@ -1,9 +1,11 @@
 // Numbers in bytes, their lowest byte first, and the frame of a block of 512 bytes.
 ghost use mathlib.Core.Path.{_≡_};
+ghost use mathlib.Core.Bool.{_&&_};
 ghost use mathlib.Core.List.{_++_};
 ghost use Prim.Native.Nat.{_+_, _-_, _≤_};
 ghost use lib.ListN.{length, take, drop, replicate};
 ghost use Rattle.model.specs.Lists.{sameList};
+ghost use Rattle.fnv.specs.Fnv.{fnv1a};
 ghost use Rattle.block.specs.Bytes.{le, field};
 ghost use Rattle.block.specs.Blocks.{sealed, checksumRight, bodyRight};
 
@@ -33,12 +35,31 @@ pub fn u64_at(bytes: &[u8], at: usize) -> u64
     u32_at(bytes, at) as u64 + 4294967296 * (u32_at(bytes, at + 4) as u64)
 }
 
+// From where on the bytes up to to are still to be tested for zeros: past the words of eight zeros from from on.
+fn past_zero_words(bytes: &[u8], from: usize, to: usize) -> usize
+    requires { ⌜ to ≤ length (now bytes) ⌝ }
+    ensures { λ r. ⌜ (let bs = now (bytes .entry) in sameList (take (to - r) (drop r bs)) (replicate (to - r) 0) ≡ sameList (take (to - from) (drop from bs)) (replicate (to - from) 0)) ⌝ }
+{
+    if to < 8 {
+        return from;
+    }
+    let last = to - 8;
+    let mut i = from;
+    while i <= last {
+        if u64_at(bytes, i) != 0 {
+            return i;
+        }
+        i += 8;
+    }
+    i
+}
+
 // Whether the bytes from from up to to are all zero.
 pub fn zero_between(bytes: &[u8], from: usize, to: usize) -> bool
     requires { ⌜ to ≤ length (now bytes) ⌝ }
     ensures { λ r. ⌜ r ≡ sameList (take (to - from) (drop from (now (bytes .entry)))) (replicate (to - from) 0) ⌝ }
 {
-    let mut i = from;
+    let mut i = past_zero_words(bytes, from, to);
     while i < to {
         if bytes[i] != 0 {
             return false;
@@ -48,12 +69,38 @@ pub fn zero_between(bytes: &[u8], from: usize, to: usize) -> bool
     true
 }
 
-// Whether a block's last four bytes are the hash of the others.
+// Whether a block's last four bytes are this hash of the others.
+fn checksum_is(block: &[u8], hash: u32) -> bool
+    requires { ⌜ (length (now block) ≡ 512) × (hash ≡ fnv1a (take 508 (now block))) ⌝ }
+    ensures { λ r. ⌜ r ≡ checksumRight (now (block .entry)) ⌝ }
+{
+    u32_at(block, 508) == hash
+}
+
+// Whether a block's checksum is right.
 pub fn checksum_right(block: &[u8]) -> bool
     requires { ⌜ length (now block) ≡ 512 ⌝ }
     ensures { λ r. ⌜ r ≡ checksumRight (now (block .entry)) ⌝ }
 {
-    u32_at(block, 508) == fnv::hash(&block[..508])
+    checksum_is(block, fnv::hash(&block[..508]))
+}
+
+// Whether the checksums of four blocks are all right.
+pub fn four_checksums_right(a: &[u8], b: &[u8], c: &[u8], d: &[u8]) -> bool
+    requires { ⌜ (length (now a) ≡ 512) × (length (now b) ≡ 512) × (length (now c) ≡ 512) × (length (now d) ≡ 512) ⌝ }
+    ensures { λ r. ⌜ r ≡ (checksumRight (now (a .entry)) && checksumRight (now (b .entry)) && checksumRight (now (c .entry)) && checksumRight (now (d .entry))) ⌝ }
+{
+    let hashes = fnv::hash_four(&a[..508], &b[..508], &c[..508], &d[..508]);
+    if !checksum_is(a, hashes.a) {
+        return false;
+    }
+    if !checksum_is(b, hashes.b) {
+        return false;
+    }
+    if !checksum_is(c, hashes.c) {
+        return false;
+    }
+    checksum_is(d, hashes.d)
 }
 
 // Whether a block has this kind and number, and zeros from end on; bytes 1 to end - 1 are free.

@@ -2,7 +2,7 @@
 -- Assumes nothing.
 use Prim.Native.Nat.{ℕ, _+_, _≤_}
 use mathlib.Core.Path.{_≡_, refl, sym, ap, _∙_}
-use mathlib.Core.Bool.{true, cond, not, _&&_}
+use mathlib.Core.Bool.{true, false, cond, not, _&&_, false≢true}
 use mathlib.Core.Logic.{_⊎_, inl, inr}
 use mathlib.Core.List.{List}
 use native.Mathlib.Nat.{add-zero}
@@ -34,6 +34,14 @@ use Rattle.firmware.specs.Calls.{PlanCall, StoredBest}
 pub place-of : (v : Verdict) (x : Refusal) → placeIn v ≤ 97 → v ≡ Refused x → place x ≤ 97
 unfolding placeIn
 place-of v x h e = rw e at h
+
+pub is-accepted : (v : Verdict) → accepted v ≡ true → v ≡ Accepted
+is-accepted Accepted e = refl
+is-accepted (Refused x) e = absurd (false≢true e)
+
+pub on-refused : {A : Type 0} (v : Verdict) (a b : A) → accepted v ≡ false → b ≡ onAccepted v a b
+on-refused Accepted a b e = absurd (false≢true (sym e))
+on-refused (Refused x) a b e = refl
 
 -- the plan of a well-formed list of an accepted file
 stores : (file ps : List ℕ) → verdict file ≡ Accepted → wellFormed (blockCount (taskOf file)) ps ≡ true → planVerdict (planFor (taskOf file) ps) ≡ Accepted

@@ -3,8 +3,7 @@ ghost use mathlib.Core.Bool.{cond};
 ghost use mathlib.Core.Path.{_≡_};
 ghost use Prim.Native.Nat.{_+_, _*_, _≤_};
 ghost use lib.ListN.{length};
-ghost use Rattle.model.specs.Answers.{number, place, onAccepted};
-ghost use Rattle.model.specs.Answers as Answers;
+ghost use Rattle.model.specs.Answers.{number, place, returned, onAccepted};
 ghost use Rattle.planblock.specs.Plans.{planVerdict, planBytes};
 ghost use Rattle.firmware.specs.Calls.{PlanCall, priceReturned, priceLeft};
 use model::Plan;
@@ -17,11 +16,11 @@ pub extern "C" fn preempt_plan(file: &[u8], block: &mut [u8]) -> u32
     ensures { λ r. ⌜ PlanCall (now (file .entry)) (now (block .entry)) r (now (block .exit)) ⌝ }
 {
     if block.len() != 512 {
-        return returned(Refusal::Output, 0);
+        return refused(Refusal::Output, 0);
     }
-    let answer = planner::plan(file);
-    let verdict = answer.verdict;
-    let plan = answer.plan;
+    let least = planner::plan(file);
+    let verdict = least.verdict;
+    let plan = least.plan;
     leave(verdict, 0, plan, block)
 }
 
@@ -32,27 +31,44 @@ pub extern "C" fn preempt_price(file: &[u8], points: &[u8], block: &mut [u8]) ->
     ensures { λ _. ⌜ now (block .exit) ≡ priceLeft (now (file .entry)) (now (points .entry)) (now (block .entry)) ⌝ }
 {
     if block.len() != 512 {
-        return returned(Refusal::Output, 0);
+        return refused(Refusal::Output, 0);
     }
-    let answer = planner::price_block(file, points);
-    let verdict = answer.verdict;
-    let plan = answer.plan;
-    leave(verdict, shift(answer.unread), plan, block)
+    let priced = planner::price_block(file, points);
+    let verdict = priced.verdict;
+    let plan = priced.plan;
+    leave(verdict, shift(priced.unread), plan, block)
 }
 
-// Leaves a plan in the block, or answers a refusal with the shift added to its place.
+// Leaves an accepted plan in the block, and answers what the call returns.
 fn leave(verdict: Verdict, shift: u32, plan: Plan, block: &mut [u8]) -> u32
     requires { ⌜ (length (now block) ≡ 512) × (shift ≤ 97) × (verdict ≡ Verdict.Accepted → planVerdict plan ≡ Verdict.Accepted) ⌝ }
     requires { ⌜ ((x : Refusal) → verdict ≡ Verdict.Refused x → place x ≤ 97) ⌝ }
-    ensures { λ r. ⌜ r ≡ onAccepted verdict 0 (Answers.returned verdict + shift) ⌝ }
+    ensures { λ r. ⌜ r ≡ onAccepted verdict 0 (returned verdict + shift) ⌝ }
     ensures { λ _. ⌜ now (block .exit) ≡ onAccepted verdict (planBytes plan) (now (block .entry)) ⌝ }
 {
+    keep(verdict, plan, block);
+    answer(verdict, shift)
+}
+
+// Leaves an accepted plan in the block.
+fn keep(verdict: Verdict, plan: Plan, block: &mut [u8])
+    requires { ⌜ (length (now block) ≡ 512) × (verdict ≡ Verdict.Accepted → planVerdict plan ≡ Verdict.Accepted) ⌝ }
+    ensures { λ _. ⌜ now (block .exit) ≡ onAccepted verdict (planBytes plan) (now (block .entry)) ⌝ }
+{
+    let accepted = planner::accepted(verdict);
+    if accepted {
+        planner::store(plan, block);
+    }
+}
+
+// What a call returns: 0, or the refusal with the shift added to its place.
+fn answer(verdict: Verdict, shift: u32) -> u32
+    requires { ⌜ ((x : Refusal) → verdict ≡ Verdict.Refused x → place x ≤ 97) × (shift ≤ 97) ⌝ }
+    ensures { λ r. ⌜ r ≡ onAccepted verdict 0 (returned verdict + shift) ⌝ }
+{
     match verdict {
-        Verdict::Accepted => {
-            planner::store(plan, block);
-            0
-        }
-        Verdict::Refused(refusal) => returned(refusal, shift),
+        Verdict::Accepted => 0,
+        Verdict::Refused(refusal) => refused(refusal, shift),
     }
 }
 
@@ -64,7 +80,7 @@ fn shift(unread: bool) -> u32
 }
 
 // What a refusal returns.
-fn returned(refusal: Refusal, shift: u32) -> u32
+fn refused(refusal: Refusal, shift: u32) -> u32
     requires { ⌜ (place refusal ≤ 97) × (shift ≤ 97) ⌝ }
     ensures { λ r. ⌜ r ≡ number refusal * 65536 + place refusal + shift ⌝ }
 {

@@ -3,7 +3,8 @@ ghost use mathlib.Core.Bool.{false};
 ghost use mathlib.Core.Path.{_≡_};
 ghost use lib.ListN.{length, drop, replicate};
 ghost use Prim.Native.Nat.{_-_, _<_, _≤_};
-ghost use Rattle.model.specs.Answers.{number, place, onAccepted, pricing};
+ghost use Rattle.model.specs.Answers.{number, place, onAccepted, andThen, pricing};
+ghost use Rattle.model.specs.Answers as Answers;
 ghost use Rattle.model.specs.Planning.{chosen, planFor, noPlan, Planned};
 ghost use Rattle.taskfile.specs.File.{verdict, taskOf};
 ghost use Rattle.planblock.specs.Plans.{storeVerdict, stored, readVerdict, planOf};
@@ -47,6 +48,26 @@ pub fn refusal_place(refusal: Refusal) -> usize
         Refusal::Argument(index) => index,
         Refusal::AboveLimit(region) => region,
         Refusal::Output => 0,
+    }
+}
+
+// Whether a verdict accepts.
+pub fn accepted(verdict: Verdict) -> bool
+    ensures { λ r. ⌜ r ≡ Answers.accepted verdict ⌝ }
+{
+    match verdict {
+        Verdict::Accepted => true,
+        Verdict::Refused(_) => false,
+    }
+}
+
+// The first refusal of two verdicts, in this order.
+fn earlier(first: Verdict, second: Verdict) -> Verdict
+    ensures { λ r. ⌜ r ≡ andThen first second ⌝ }
+{
+    match first {
+        Verdict::Accepted => second,
+        Verdict::Refused(refusal) => Verdict::Refused(refusal),
     }
 }
 
@@ -185,13 +206,11 @@ pub fn price_block(file: &[u8], block: &[u8]) -> BlockPrice
     ensures { λ r. ⌜ (r .verdict ≡ blockVerdict (now (file .entry)) (now (block .entry))) × (r .unread ≡ blockRefused (now (file .entry)) (now (block .entry))) × (r .plan ≡ blockPlan (now (file .entry)) (now (block .entry))) ⌝ }
 {
     let checked = taskfile::check(file);
-    let Verdict::Accepted = checked else {
-        return no_block_price(checked, false);
-    };
     let read = planblock::read(block);
     let readable = read.verdict;
-    let Verdict::Accepted = readable else {
-        return no_block_price(readable, true);
+    let before = earlier(checked, readable);
+    let Verdict::Accepted = before else {
+        return no_block_price(before, accepted(checked));
     };
     let all = all_lines(file);
     let useful = all.useful;

@@ -10,9 +10,9 @@ use lib.ListN.{length, take, drop, replicate}
 use lib.Seq.{take-add, drop-drop}
 use Rattle.model.specs.Lists.{sameList}
 use Rattle.model.specs.declared.Place.the-variants.{Nowhere, At}
-use Rattle.model.proofs.Lists.{list-same, same-append}
+use Rattle.model.proofs.Lists.{and-split, list-same, same-append}
 use Rattle.block.specs.Bytes.{AllBytes, le, field}
-use Rattle.block.specs.Blocks.{bodyRight, lowestFrom}
+use Rattle.block.specs.Blocks.{checksumRight, bodyRight, lowestFrom}
 use Rattle.block.proofs.Bytes.{length-part, length-fields, le-field, les-fields}
 use Rattle.block.proofs.Blocks.{body-rest, lowest-at}
 use Rattle.taskfile.specs.File.{headerOf, headerBytes, entryBytes, readsIn, blockIn}
@@ -64,11 +64,32 @@ module _ (bs : List ℕ) (b : AllBytes bs) (l : length bs ≡ 512) where
       let first : le 2 n ++ rest ≡ take (2 + (4 + 4 * n)) (drop 2 bs) = ap (λ (m : ℕ). le 2 m ++ rest) e ∙ put 2 2 (4 + 4 * n) (omega arith) in
       simp (append-assoc, ← e) (rw (length-fields, les-fields bs 8 4 n b (omega arith), put 4 4 (4 * n) (omega arith), s, first))
 
+-- the checksum of block k is right
+abbrev pub sumRight : List ℕ → ℕ → Bool
+sumRight file k = checksumRight (blockIn file k)
+
+-- the lowest wrong checksum of count blocks is the lowest of the last left of them
+abbrev pub ToLookAt : List ℕ → ℕ → ℕ → Type 0
+ToLookAt file count left = (left ≤ count) × (lowestFrom (sumRight file) 0 count ≡ lowestFrom (sumRight file) (count - left) left)
+
 -- the block looked at is right: on to the next
 pub scan-next : (f : ℕ → Bool) (a b n : ℕ) → (n ≡ 0 → ⊥) → b ≡ a + 1 → f a ≡ true → lowestFrom f a n ≡ lowestFrom f b (n - 1)
 unfolding lowestFrom
 scan-next f a b zero h s e = absurd (h refl)
 scan-next f a b (suc n) h s e = let m : suc n - 1 ≡ n = omega arith in rw (e, s, add-one, m)
+
+-- four are right: on to the fifth
+pub scan-four : (f : ℕ → Bool) (a b n : ℕ) → 4 ≤ n → b ≡ a + 4 → (f a && f (a + 1) && f (a + 2) && f (a + 3)) ≡ true → lowestFrom f a n ≡ lowestFrom f b (n - 4)
+scan-four f a b n h s e =
+    let fourth = and-split (f a && f (a + 1) && f (a + 2)) (f (a + 3)) e in
+    let third = and-split (f a && f (a + 1)) (f (a + 2)) (fourth .0) in
+    let second = and-split (f a) (f (a + 1)) (third .0) in
+    let rest : n - 1 - 1 - 1 - 1 ≡ n - 4 = omega arith in
+    scan-next f a (a + 1) n (omega arith) (omega arith) (second .0) ∙
+    scan-next f (a + 1) (a + 2) (n - 1) (omega arith) (omega arith) (second .1) ∙
+    scan-next f (a + 2) (a + 3) (n - 1 - 1) (omega arith) (omega arith) (third .1) ∙
+    scan-next f (a + 3) b (n - 1 - 1 - 1) (omega arith) (omega arith) (fourth .1) ∙
+    ap (lowestFrom f b) rest
 
 -- it is wrong: it is the lowest
 pub scan-here : (f : ℕ → Bool) (a n : ℕ) → (n ≡ 0 → ⊥) → f a ≡ false → lowestFrom f a n ≡ At a

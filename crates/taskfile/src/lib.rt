@@ -59,12 +59,40 @@ fn block_at(file: &[u8], k: usize) -> &[u8]
     &file[start..end]
 }
 
+// Whether the checksums of four blocks from block k on are all right.
+fn four_right(file: &[u8], k: usize) -> bool
+    requires { ⌜ k * 512 + 2048 ≤ length (now file) ⌝ }
+    ensures { λ r. ⌜ (let f = now (file .entry) in r ≡ (checksumRight (blockIn f k) && checksumRight (blockIn f (k + 1)) && checksumRight (blockIn f (k + 2)) && checksumRight (blockIn f (k + 3)))) ⌝ }
+{
+    block::four_checksums_right(
+        block_at(file, k),
+        block_at(file, k + 1),
+        block_at(file, k + 2),
+        block_at(file, k + 3),
+    )
+}
+
+// How many blocks are left past the fours of right checksums: the lowest wrong one is the lowest of these.
+fn left_after_fours(file: &[u8]) -> usize
+    ensures { λ r. ⌜ (let f = now (file .entry) in (r ≤ blocksIn f) × (lowestFrom (λ k. checksumRight (blockIn f k)) 0 (blocksIn f) ≡ lowestFrom (λ k. checksumRight (blockIn f k)) (blocksIn f - r) r)) ⌝ }
+{
+    let count = file.len() / 512;
+    let mut left = count;
+    while left >= 4 {
+        if !four_right(file, count - left) {
+            return left;
+        }
+        left -= 4;
+    }
+    left
+}
+
 // Refuses at the lowest block whose checksum is wrong.
 fn check_checksums(file: &[u8]) -> Verdict
     ensures { λ r. ⌜ (let f = now (file .entry) in r ≡ refusedAt (lowestFrom (λ k. checksumRight (blockIn f k)) 0 (blocksIn f)) Refusal.Checksum Verdict.Accepted) ⌝ }
 {
     let count = file.len() / 512;
-    let mut left = count;
+    let mut left = left_after_fours(file);
     while left != 0 {
         let k = count - left;
         if !block::checksum_right(block_at(file, k)) {

@@ -7,11 +7,11 @@ use borrow.Author.Needs.{needs}
 use Rattle.firmware.proofs.preempt_plan.Statement.{statement}
 use Rattle.firmware.proofs.preempt_plan.Tie as tie
 
-returned-requires : tie.Need-returned-requires
-returned-requires c κs = search needs
+refused-requires : tie.Need-refused-requires
+refused-requires c κs = search needs
 
 returns : tie.Need-returns
-returns c = record { output = λ no. (c .returned .ensures, refl); refused = λ l x e. absurd (omega arith); planned = λ l e. absurd (omega arith) }
+returns c = record { output = λ no. (c .refused .ensures, refl); refused = λ l x e. absurd (omega arith); planned = λ l e. absurd (omega arith) }
 
 plan-requires : tie.Need-plan-requires
 plan-requires c κs = search needs
@@ -38,4 +38,4 @@ returns-2 c =
 pub preempt-plan-spec : {M : Type 1} → statement M
 preempt-plan-spec =
     tie.close
-    (tie.spec returned-requires returns plan-requires leave-requires same-length returns-2)
+    (tie.spec refused-requires returns plan-requires leave-requires same-length returns-2)

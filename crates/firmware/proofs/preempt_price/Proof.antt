@@ -10,12 +10,12 @@ use borrow.Author.Needs.{needs}
 use Rattle.firmware.proofs.preempt_price.Statement.{statement}
 use Rattle.firmware.proofs.preempt_price.Tie as tie
 
-returned-requires : tie.Need-returned-requires
-returned-requires c κs = search needs
+refused-requires : tie.Need-refused-requires
+refused-requires c κs = search needs
 
 returns : tie.Need-returns
 unfolding priceReturned priceLeft
-returns c = rw (ne-eqb (length (c .before .before .before .before .before .args .block .now)) 512 (λ l. omega arith)) (c .returned .ensures, refl)
+returns c = rw (ne-eqb (length (c .before .before .before .before .before .args .block .now)) 512 (λ l. omega arith)) (c .refused .ensures, refl)
 
 price-block-requires : tie.Need-price-block-requires
 price-block-requires c κs = search needs
@@ -52,7 +52,7 @@ pub preempt-price-spec : {M : Type 1} → statement M
 preempt-price-spec =
     tie.close
     (tie.spec
-    returned-requires
+    refused-requires
     returns
     price-block-requires
     shift-requires

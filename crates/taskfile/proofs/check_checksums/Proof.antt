@@ -1,34 +1,33 @@
 -- `taskfile::check_checksums` meets its contract. The loop's invariant: the lowest wrong block is the lowest of those that are left, whose
 -- first is looked at next. The measure is how many are left. Assumes nothing.
-use Prim.Native.Nat.{ℕ, _-_, _/_, _≤_}
+use Prim.Native.Nat.{_-_, _/_}
 use mathlib.Core.Path.{_≡_, sym, ap, _∙_}
-use mathlib.Core.Bool.{Bool}
-use mathlib.Core.List.{List}
-use native.Mathlib.Nat.{sub-self}
 use native.Mathlib.Omega.{arith}
 use lib.ListN.{length}
+use borrow.Author.Needs.{needs}
 use borrow.Author.Tests.{not-true, not-false}
 use Rattle.model.specs.Answers.{refusedAt}
 use Rattle.model.specs.declared.Place.{Place}
 use Rattle.model.specs.declared.Refusal.the-variants.{Checksum}
 use Rattle.model.specs.declared.Verdict.the-variants.{Accepted}
-use Rattle.block.specs.Blocks.{checksumRight, lowestFrom}
-use Rattle.taskfile.specs.File.{blockIn, blocksIn}
-use Rattle.taskfile.proofs.Frames.{length-in, scan-next, scan-here, scan-end}
+use Rattle.block.specs.Blocks.{checksumRight}
+use Rattle.taskfile.specs.File.{blocksIn}
+use Rattle.taskfile.proofs.Frames.{length-in, sumRight, ToLookAt, scan-next, scan-here, scan-end}
 use Rattle.taskfile.proofs.check_checksums.Statement.{statement}
 use Rattle.taskfile.proofs.check_checksums.Tie as tie
 
-abbrev right : List ℕ → ℕ → Bool
-right file k = checksumRight (blockIn file k)
-
 abbrev Inv-loop : tie.InvT-loop
-Inv-loop file count left₀ left = (left ≤ count) × (lowestFrom (right file) 0 count ≡ lowestFrom (right file) (count - left) left)
+Inv-loop file count left₀ left = ToLookAt file count left
 
 abbrev μ-loop : tie.MeasureT-loop
 μ-loop file count left₀ left = left
 
+left-after-fours-requires : tie.Need-left-after-fours-requires Inv-loop μ-loop
+left-after-fours-requires c κs = search needs
+
 loop-holds : tie.Need-loop-holds Inv-loop μ-loop
-loop-holds c = (omega arith, rw sub-self)
+unfolding blocksIn
+loop-holds c = c .left-after-fours .ensures
 
 sub-k : tie.Need-sub-k Inv-loop μ-loop
 sub-k c = omega arith
@@ -41,8 +40,8 @@ checksum-right-requires c κs = rw (c .block-at .ensures) (length-in _ _ (omega 
 
 tested : (c : tie.After-checksum-right Inv-loop μ-loop)
     → let head = c .before .before .before in
-    let file = head .before .before .args .file .now in
-    right file (length file / 512 - head .loop .left) ≡ c .checksum-right .result
+    let file = head .before .before .before .args .file .now in
+    sumRight file (length file / 512 - head .loop .left) ≡ c .checksum-right .result
 tested c = ap checksumRight (sym (c .before .block-at .ensures)) ∙ sym (c .checksum-right .ensures)
 
 returns : tie.Need-returns Inv-loop μ-loop
@@ -52,7 +51,7 @@ returns c =
     sym
     (ap (λ (p : Place). refusedAt p Checksum Accepted)
     (head .loop .inv .1 ∙
-    scan-here (right (head .before .before .args .file .now)) _ _ (c .before .before .before .loop-test .taken) (tested (c .before) ∙ not-true _ (c .if1 .taken))))
+    scan-here (sumRight (head .before .before .before .args .file .now)) _ _ (c .before .before .before .loop-test .taken) (tested (c .before) ∙ not-true _ (c .if1 .taken))))
 
 sub-left : tie.Need-sub-left Inv-loop μ-loop
 sub-left c = omega arith
@@ -65,7 +64,7 @@ loop-again c =
     let head = c .before .before .before .before in (
       omega arith,
       head .loop .inv .1 ∙
-          scan-next (right (head .before .before .args .file .now)) _ _ _ (c .before .before .before .loop-test .taken) (omega arith)
+          scan-next (sumRight (head .before .before .before .args .file .now)) _ _ _ (c .before .before .before .loop-test .taken) (omega arith)
           (tested (c .before) ∙ not-false _ (c .if1 .left)),
     )
 
@@ -75,7 +74,7 @@ returns-2 c =
     let head = c .before in
     sym
     (ap (λ (p : Place). refusedAt p Checksum Accepted)
-    (head .loop .inv .1 ∙ scan-end (right (head .before .before .args .file .now)) _ _ (c .loop-test .left)))
+    (head .loop .inv .1 ∙ scan-end (sumRight (head .before .before .before .args .file .now)) _ _ (c .loop-test .left)))
 
 pub check-checksums-spec : {M : Type 1} → statement M
 check-checksums-spec =
@@ -83,6 +82,7 @@ check-checksums-spec =
     (tie.spec
     Inv-loop
     μ-loop
+    left-after-fours-requires
     loop-holds
     sub-k
     block-at-requires

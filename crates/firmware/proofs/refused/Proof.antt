@@ -1,10 +1,10 @@
--- `firmware::returned` meets its contract: numbers are at most 9 and places at most 194, so the sum fits a u32.
+-- `firmware::refused` meets its contract: numbers are at most 9 and places at most 194, so the sum fits a u32.
 -- Assumes nothing.
 use native.Mathlib.Omega.{arith}
 use Rattle.model.proofs.Places.{number-most}
 use borrow.Author.Needs.{needs}
-use Rattle.firmware.proofs.returned.Statement.{statement}
-use Rattle.firmware.proofs.returned.Tie as tie
+use Rattle.firmware.proofs.refused.Statement.{statement}
+use Rattle.firmware.proofs.refused.Tie as tie
 
 refusal-number-requires : tie.Need-refusal-number-requires
 refusal-number-requires c κs = search needs
@@ -27,8 +27,8 @@ add-result-2 c = omega (arith, number-most (c .before .before .args .refusal))
 returns : tie.Need-returns
 returns c = search needs
 
-pub returned-spec : {M : Type 1} → statement M
-returned-spec =
+pub refused-spec : {M : Type 1} → statement M
+refused-spec =
     tie.close
     (tie.spec
     refusal-number-requires

@@ -1,17 +1,18 @@
 -- The binary digits of a number, as a set. A number is taken apart into its lowest digit and its half, so each law is an induction on the width.
 -- Assumes nothing.
-use mathlib.Core.Bool.{Bool, true, false, _&&_, _||_}
+use mathlib.Core.Bool.{Bool, true, false, _&&_, _||_, xor}
 use mathlib.Core.Path.{_≡_, refl, sym, ap, ap₂, _∙_, fun-ext}
 use Prim.Native.Nat.{ℕ, zero, suc, _+_, _*_, _/_, _%_, _^_, _≤_, _<_, zero-le}
 use native.Mathlib.Nat.{le-refl, le-of-suc-le-suc, not-suc-le-zero, zero-lt-suc, add-zero, add-suc, add-assoc, one-mul, mul-assoc, pow-suc}
-use native.Mathlib.Nat.{zero-div, div-one, mod-lt, mul-div-cancel, mul-mod-left, div-add-mod'}
+use native.Mathlib.Nat.{zero-div, zero-mod, zero-mul, div-one, mod-lt, mul-div-cancel, mul-mod-left, div-add-mod'}
 use native.Mathlib.Numerals.{one-add}
 use native.Mathlib.Omega.{arith}
 use lib.Arith.{lt-one}
-use lib.Bits.{bitAnd, bitOr, and-shr, and-mod, or-shr, or-mod}
+use lib.Bits.{bitAnd, bitOr, bitXor, and-shr, and-mod, or-shr, or-mod, xor-shr, xor-mod}
 use lib.Count.{ones, ones-step}
 use lib.Dec.{eqb, lit<, eqb·suc-suc, eqb·suc-zero, eqb·zero-suc}
 use lib.Pow.{shl-exact, shr-shr}
+use mir.Val.{boolByte}
 use Rattle.model.specs.Sets.{Lines, bit, digit, countBelow, digitsBelow}
 
 bit-eqb : {n : ℕ} → n < 2 → bit (eqb n 1) ≡ n
@@ -36,7 +37,7 @@ digit-zero a = ap (λ (x : ℕ). bit (eqb (x % 2) 1)) (div-one a) ∙ bit-eqb (m
 digit-suc : (a j : ℕ) → digit a (suc j) ≡ digit (a / 2) j
 digit-suc a j = rw (← one-add j, ← shr-shr a 1 j)
 
--- ---- digits of an or, of an and, of a power
+-- ---- digits of an or, of an and, of an exclusive or, of a power
 
 module _ (op : ℕ → ℕ → ℕ) (f : Bool → Bool → Bool)
     (high : (a b k : ℕ) → op a b / 2 ^ k ≡ op (a / 2 ^ k) (b / 2 ^ k))
@@ -62,11 +63,24 @@ and-each (suc zero) (suc zero) hu hv = refl
 and-each (suc zero) (suc (suc v)) hu hv = absurd (omega arith)
 and-each (suc (suc u)) v hu hv = absurd (omega arith)
 
+xor-each : (u v : ℕ) → u < 2 → v < 2 → eqb (bitXor u v) 1 ≡ xor (eqb u 1) (eqb v 1)
+unfolding xor
+xor-each zero zero hu hv = refl
+xor-each zero (suc zero) hu hv = refl
+xor-each zero (suc (suc v)) hu hv = absurd (omega arith)
+xor-each (suc zero) zero hu hv = refl
+xor-each (suc zero) (suc zero) hu hv = refl
+xor-each (suc zero) (suc (suc v)) hu hv = absurd (omega arith)
+xor-each (suc (suc u)) v hu hv = absurd (omega arith)
+
 pub digit-or : (a b j : ℕ) → digit (bitOr a b) j ≡ (digit a j || digit b j)
 digit-or = digit-op bitOr _||_ or-shr or-mod or-each
 
 pub digit-and : (a b j : ℕ) → digit (bitAnd a b) j ≡ (digit a j && digit b j)
 digit-and = digit-op bitAnd _&&_ and-shr and-mod and-each
+
+pub digit-xor : (a b j : ℕ) → digit (bitXor a b) j ≡ xor (digit a j) (digit b j)
+digit-xor = digit-op bitXor xor xor-shr xor-mod xor-each
 
 pub digit-of-zero : (j : ℕ) → digit 0 j ≡ false
 digit-of-zero j = ap (λ (x : ℕ). eqb (x % 2) 1) (zero-div (2 ^ j))
@@ -81,9 +95,10 @@ digit-pow (suc k) (suc j) =
     ∙ digit-pow k j
     ∙ sym (eqb·suc-suc j k)
 
--- 1 shifted left by k within a width
-pub digit-shl : (width k j : ℕ) → k < width → digit (1 * 2 ^ k % 2 ^ width) j ≡ eqb j k
-digit-shl width k j h = rw (shl-exact 1 k width (lit< tt) (omega arith), one-mul) (digit-pow k j)
+-- a bit shifted left by k within a width
+pub digit-shl : (b : Bool) (width k j : ℕ) → k < width → digit (boolByte b * 2 ^ k % 2 ^ width) j ≡ (b && eqb j k)
+digit-shl true width k j h = rw (shl-exact 1 k width (lit< tt) (omega arith), one-mul) (digit-pow k j)
+digit-shl false width k j h = rw (zero-mul, zero-mod) (digit-of-zero j)
 
 -- ---- counts
 

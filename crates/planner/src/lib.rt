@@ -122,7 +122,8 @@ pub fn useful(file: &[u8], k: usize) -> UsefulLines
         };
     }
     let mut sets = [0u64; 520];
-    reuse::useful_lines(file, &mut sets);
+    let mut accessed = [0u64; 520];
+    reuse::edge_lines(file, &mut sets, &mut accessed);
     UsefulLines {
         verdict: Verdict::Accepted,
         lines: regions::lines_at(&sets, k),
@@ -162,8 +163,7 @@ fn all_lines(file: &[u8]) -> AllLines
 {
     let mut useful = [0u64; 520];
     let mut accessed = [0u64; 520];
-    reuse::useful_lines(file, &mut useful);
-    reuse::accessed_useful_lines(file, &useful, &mut accessed);
+    reuse::edge_lines(file, &mut useful, &mut accessed);
     let evicted = reuse::evicted_lines(file);
     AllLines {
         useful,

@@ -1,3 +1,4 @@
 pub mod Walk
 pub mod Edges
+pub mod Toggles
 pub mod Steps

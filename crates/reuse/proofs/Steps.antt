@@ -1,38 +1,38 @@
--- The walk's state for all lines at once, after some of the reads of a task: at its start, after one read more, and at its end.
+-- The walk's state for all lines at once, after some of the reads of a task: at its start, after one read more, and at its end. First what is
+-- kept to find the useful lines, then the lines that each block has read.
 -- Assumes nothing.
-use Prim.Native.Nat.{ℕ, suc, _+_, _≤_, _<_, zero-le}
-use mathlib.Core.Path.{_≡_, refl, sym, ap, ap₂, subst, _∙_}
-use mathlib.Core.Bool.{Bool, true, false, _&&_, _||_, or-false}
+use Prim.Native.Nat.{ℕ, zero, suc, _+_, _≤_, _<_, zero-le}
+use mathlib.Core.Path.{_≡_, refl, sym, ap, subst, _∙_}
+use mathlib.Core.Bool.{Bool, false, _&&_, _||_, xor, and-true, and-false, or-false}
 use mathlib.Core.Logic.{by-cases}
-use mathlib.Core.List.{List, []}
+use mathlib.Core.List.{List}
 use native.Mathlib.Omega.{arith}
 use native.Mathlib.Decide.{ℕ-discrete, decLt}
 use lib.Dec.{eqb, leb, ltb}
-use lib.ListN.{length, getD, set, take, drop, length-set}
-use lib.Seq.{getD-set-same, getD-set-other, drop-nil, take-length}
+use lib.ListN.{length, getD, set, take, length-set}
+use lib.Seq.{getD-set-same, getD-set-other, drop-nil, take-length, take-all}
 use borrow.Author.Tests.{eq-eqb, ne-eqb, le-ltb}
 use Rattle.model.specs.Task.{Task, blockCount}
-use Rattle.model.specs.Lines.{lineOf, onLine, lastRead, firstRead, anyRead, sameBlock, blockAt, stateAfter, nextRead, useful}
+use Rattle.model.specs.Lines.{lineOf, onLine, lastRead, firstRead, anyRead, sameBlock, blockAt, stateAfter, nextRead, useful, accessed}
 use Rattle.model.specs.declared.Line.{Line}
 use Rattle.model.specs.declared.Line.the-variants.{Empty, Held}
-use Rattle.model.proofs.Sets.{in-eight-above}
-use Rattle.model.proofs.LineStates.{never-empty, useful-beyond}
+use Rattle.model.proofs.LineStates.{never-empty, useful-beyond, any-take}
 use Rattle.model.proofs.ReadOrder.{allReads, edge, take-edge, drop-edge, edge-rises, edge-end, edge-suc, read-at}
-use Rattle.reuse.specs.Edges.{wordsAt, linesAt, EdgeSets}
-use Rattle.reuse.proofs.Edges.{eight-at}
-use Rattle.reuse.proofs.Walk.{Kept, retold, other, this}
+use Rattle.reuse.specs.Edges.{linesAt, EdgeSets, toggledAt, EdgeToggles}
+use Rattle.reuse.proofs.Toggles.{xor-false, toggled-none, toggled-above}
+use Rattle.reuse.proofs.Walk.{Kept, retold, since-le, other, this}
 
 pub record Walked (t : Task) (p : ℕ) (held : List Line) (since : List ℕ) (sets : List ℕ) : Type 0 where
   pub long-held : length held ≡ 512
   pub long-since : length since ≡ 512
   pub long : length sets ≡ 520
-  pub kept : (c : ℕ) → c < 512 → Kept (allReads t) (edge t) (onLine t c) p (getD held c Empty) (getD since c 0) (λ k. linesAt sets k c)
+  pub kept : (c : ℕ) → c < 512 → Kept (allReads t) (edge t) (onLine t c) p (getD held c Empty) (getD since c 0) (λ k. toggledAt sets k c)
 
--- read j of block b, of number m on this line; the edges from since[line] on get the line if it held m already
+-- read j of block b, of number m on this line; it is toggled at the edges from since[line] up to b if it held m already
 pub walked-more : (t : Task) (i j b m line q : ℕ) (held : List Line) (since sets sets′ : List ℕ) → i < blockCount t → j < length (blockAt t i .reads)
     → b ≡ suc i → getD (blockAt t i .reads) j 0 ≡ m → line < 512 → line ≡ lineOf t m → q ≡ suc (edge t i + j) → length sets′ ≡ 520
-    → ((k d : ℕ) → k < 65 → linesAt sets′ k d
-    ≡ (linesAt sets k d || eqb d line && (sameBlock (getD held line Empty) (Held m) && (leb (getD since line 0) k && ltb k b))))
+    → ((k d : ℕ) → toggledAt sets′ k d
+    ≡ xor (toggledAt sets k d) (sameBlock (getD held line Empty) (Held m) && eqb d line && (leb (getD since line 0) k && ltb k b)))
     → Walked t (edge t i + j) held since sets → Walked t q (set held line (Held m)) (set since line b) sets′
 unfolding onLine
 walked-more t i j b m line q held since sets sets′ hi hj eb em hl at eq long added w =
@@ -56,19 +56,19 @@ walked-more t i j b m line q held since sets sets′ hi hj eb em hl at eq long a
     KeptAt : ℕ → Type 0
     KeptAt c =
         Kept (allReads t) (edge t) (onLine t c) (suc (edge t i + j)) (getD (set held line (Held m)) c Empty) (getD (set since line b) c 0)
-        (λ k. linesAt sets′ k c)
+        (λ k. toggledAt sets′ k c)
 
     on-it : KeptAt line
     on-it =
         retold (allReads t) (edge t) (onLine t line) (getD-set-same held line (Held m) Empty (omega (arith, w .long-held)))
         (getD-set-same since line b 0 (omega (arith, w .long-since)))
-        (λ k u. added k line u ∙ rw (eq-eqb line line refl) refl)
+        (λ k u. added k line ∙ rw (eq-eqb line line refl, and-true) refl)
         (this (allReads t) (edge t) (onLine t line) (edge t i + j) b m inside (read-at t i j hi hj ∙ em) before after (eq-eqb line (lineOf t m) at) (w .kept line hl))
 
     off-it : (c : ℕ) → c < 512 → (c ≡ line → ⊥) → KeptAt c
     off-it c h n =
         retold (allReads t) (edge t) (onLine t c) (getD-set-other held line c (Held m) Empty n) (getD-set-other since line c b 0 n)
-        (λ k u. added k c u ∙ rw (ne-eqb c line n) (or-false (linesAt sets k c)))
+        (λ k u. added k c ∙ rw (ne-eqb c line n, and-false) (xor-false (toggledAt sets k c)))
         (other (allReads t) (edge t) (onLine t c) (edge t i + j) b m inside (read-at t i j hi hj ∙ em) before after
         (ne-eqb c (lineOf t m) (λ e. n (e ∙ sym at))) (w .kept c h))
 
@@ -87,13 +87,16 @@ walked-none t held since sets h s e z none =
           record {
             held = e c l;
             last = λ k. rw (drop-nil, z c l) (sym (le-ltb k 0 zero-le));
-            useful = λ k u. rw drop-nil (none .lines k c (omega arith) ∙ sym (never-empty (lastRead (onLine t c) Empty (take (edge t k) (allReads t)))));
+            useful =
+                λ k u.
+                rw drop-nil
+                (toggled-none sets k c (λ e l. none .lines e c (omega arith)) ∙ sym (never-empty (lastRead (onLine t c) Empty (take (edge t k) (allReads t)))));
           };
     }
 
--- after the last read the sets are those of the useful lines
+-- after the last read the toggles are those of the useful lines
 pub walked-all : (t : Task) (p : ℕ) (held : List Line) (since sets : List ℕ) → p ≡ length (allReads t) → blockCount t ≤ 64
-    → 1 ≤ t .lineCount → t .lineCount ≤ 512 → Walked t p held since sets → EdgeSets (blockCount t) (useful t) sets
+    → 1 ≤ t .lineCount → t .lineCount ≤ 512 → Walked t p held since sets → EdgeToggles (blockCount t) (useful t) sets
 unfolding useful stateAfter nextRead
 walked-all t p held since sets e n least most w =
     record {
@@ -102,5 +105,66 @@ walked-all t p held since sets e n least most w =
           λ k c h.
           by-cases (decLt c 512)
           (λ l. w .kept c l .useful k (omega arith) ∙ rw (e, take-length, take-edge t k, drop-edge t k) refl)
-          (λ l. in-eight-above (wordsAt sets k) (eight-at sets k (w .long) (omega arith)) c (omega arith) ∙ sym (useful-beyond t least c (omega arith) k));
+          (λ l. toggled-above sets (w .long) k c (omega arith) (omega arith) ∙ sym (useful-beyond t least c (omega arith) k));
+    }
+
+-- no line was read last by a block that comes later
+pub walked-since : (t : Task) (i j line : ℕ) (held : List Line) (since sets : List ℕ) → i < blockCount t → j ≤ length (blockAt t i .reads) → line < 512
+    → Walked t (edge t i + j) held since sets → getD since line 0 ≤ suc i
+walked-since t i j line held since sets hi hj hl w =
+    since-le (allReads t) (edge t) (onLine t line) (suc i) (omega (arith, edge-suc t i hi)) (w .kept line hl)
+
+-- the lines that the blocks read: those of the blocks up to i, and those of the first j reads of the block after it
+pub record Gathered (t : Task) (i j : ℕ) (sets : List ℕ) : Type 0 where
+  pub long : length sets ≡ 520
+  pub passed : (e c : ℕ) → e ≤ i → linesAt sets e c ≡ accessed t e c
+  pub here : (c : ℕ) → suc i < 65 → linesAt sets (suc i) c ≡ anyRead (onLine t c) (take j (blockAt t i .reads))
+  pub ahead : (e c : ℕ) → suc i < e → e < 65 → linesAt sets e c ≡ false
+
+pub gathered-none : (t : Task) (sets : List ℕ) → EdgeSets 64 (λ k c. false) sets → Gathered t 0 0 sets
+unfolding anyRead accessed
+gathered-none t sets none =
+    record {
+      long = none .long;
+      passed = first;
+      here = λ c h. none .lines 1 c (omega arith);
+      ahead = λ e c h l. none .lines e c (omega arith);
+    }
+  where
+    first : (e c : ℕ) → e ≤ 0 → linesAt sets e c ≡ accessed t e c
+    first zero c h = none .lines 0 c (omega arith)
+    first (suc e) c h = absurd (omega arith)
+
+-- read j of block b, of number m on this line
+pub gathered-more : (t : Task) (i j b m line : ℕ) (sets sets′ : List ℕ) → j < length (blockAt t i .reads) → b ≡ suc i
+    → getD (blockAt t i .reads) j 0 ≡ m → line ≡ lineOf t m → length sets′ ≡ 520
+    → ((e d : ℕ) → linesAt sets′ e d ≡ (linesAt sets e d || eqb d line && eqb e b)) → Gathered t i j sets → Gathered t i (j + 1) sets′
+unfolding onLine
+gathered-more t i j b m line sets sets′ hj eb em at long added g =
+    record {
+      long = long;
+      passed = λ e c h. same e c (omega arith) ∙ g .passed e c h;
+      here =
+          λ c h.
+          added (suc i) c ∙ rw (eq-eqb (suc i) b (sym eb), and-true, at, ← em)
+          (ap (λ (x : Bool). x || onLine t c (getD (blockAt t i .reads) j 0)) (g .here c h) ∙ sym (any-take (onLine t c) (blockAt t i .reads) j hj));
+      ahead = λ e c h l. same e c (omega arith) ∙ g .ahead e c h l;
+    }
+  where
+    same : (e c : ℕ) → (e ≡ b → ⊥) → linesAt sets′ e c ≡ linesAt sets e c
+    same e c n = added e c ∙ rw (ne-eqb e b n, and-false) (or-false (linesAt sets e c))
+
+-- the block's last read is passed
+pub gathered-block : (t : Task) (i j : ℕ) (sets : List ℕ) → i < 64 → length (blockAt t i .reads) ≤ j → Gathered t i j sets → Gathered t (suc i) 0 sets
+unfolding anyRead accessed
+gathered-block t i j sets hi hj g =
+    record {
+      long = g .long;
+      passed =
+          λ e c h.
+          by-cases (ℕ-discrete e (suc i))
+          (λ q. rw q (g .here c (omega arith) ∙ ap (anyRead (onLine t c)) (take-all j (blockAt t i .reads) hj)))
+          (λ n. g .passed e c (omega arith));
+      here = λ c h. g .ahead (suc (suc i)) c (omega arith) h;
+      ahead = λ e c h l. g .ahead e c (omega arith) l;
     }

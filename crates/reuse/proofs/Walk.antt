@@ -1,9 +1,9 @@
 -- One walk over the reads finds the useful lines at every edge. What is kept of a line after p reads: its state, the block that read it last,
 -- and the edges at which it is known to be useful. A read of the number that the line holds since block s makes it useful at the edges from s
--- up to the block that reads; any other read changes no edge. Assumes nothing.
-use Prim.Native.Nat.{ℕ, zero, suc, _+_, _≤_, _<_}
-use mathlib.Core.Path.{_≡_, refl, sym, ap, ap₂, _∙_}
-use mathlib.Core.Bool.{Bool, true, false, cond, _&&_, _||_, or-false, or-true, and-false, and-true}
+-- up to the block that reads, at none of which it was; any other read changes no edge. Assumes nothing.
+use Prim.Native.Nat.{ℕ, suc, _≤_, _<_}
+use mathlib.Core.Path.{_≡_, refl, sym, ap, _∙_}
+use mathlib.Core.Bool.{Bool, true, false, cond, _&&_, _||_, xor, or-false, or-true, and-false, and-true}
 use mathlib.Core.List.{List, [], _∷_, _++_}
 use mathlib.Core.Logic.{by-cases}
 use native.Mathlib.Omega.{arith}
@@ -16,6 +16,7 @@ use Rattle.model.specs.Lines.{lastRead, firstRead, anyRead, sameBlock}
 use Rattle.model.specs.declared.Line.{Line}
 use Rattle.model.specs.declared.Line.the-variants.{Empty, Held}
 use Rattle.model.proofs.LineStates.{never-empty, last-append, any-append, last-unread, first-none, first-append}
+use Rattle.reuse.proofs.Toggles.{xor-false, false-xor}
 
 -- reads is every read in order, and edge k comes after the first `edge k` of them; on tells which numbers lie on the line
 module _ (reads : List ℕ) (edge : ℕ → ℕ) (on : ℕ → Bool) where
@@ -28,6 +29,12 @@ module _ (reads : List ℕ) (edge : ℕ → ℕ) (on : ℕ → Bool) where
       → ((k : ℕ) → k < 65 → at′ k ≡ at k) → Kept p state since at → Kept p state′ since′ at′
   retold e f g w =
       record { held = e ∙ w .held; last = λ k. w .last k ∙ ap (ltb k) (sym f); useful = λ k h. g k h ∙ w .useful k h }
+
+  -- no block after the reads passed has read the line
+  pub since-le : {p since : ℕ} {state : Line} {at : ℕ → Bool} (b : ℕ) → p ≤ edge b → Kept p state since at → since ≤ b
+  unfolding anyRead
+  since-le {p} {since} b h w =
+      ltb-false b since (sym (w .last b) ∙ ap (anyRead on) (drop-of-length-le (take p reads) {i = edge b} (omega (arith, length-take p reads))))
 
   -- one read more, of m in block b: the edges below b are passed, and the others are not
   module _ (p b m : ℕ) (inside : p < length reads) (is : getD reads p 0 ≡ m)
@@ -92,7 +99,7 @@ module _ (reads : List ℕ) (edge : ℕ → ℕ) (on : ℕ → Bool) where
 
     -- a read that lies on the line: it holds m since block b, and is useful from where it was read last if it held m already
     pub this : {state : Line} {since : ℕ} {at : ℕ → Bool} → on m ≡ true → Kept p state since at
-        → Kept (suc p) (Held m) b (λ k. at k || (sameBlock state (Held m) && (leb since k && ltb k b)))
+        → Kept (suc p) (Held m) b (λ k. xor (at k) (sameBlock state (Held m) && (leb since k && ltb k b)))
     unfolding anyRead firstRead
     this {state} {since} {at} e w =
         record {
@@ -105,21 +112,21 @@ module _ (reads : List ℕ) (edge : ℕ → ℕ) (on : ℕ → Bool) where
         }
       where
         useful-above : (k : ℕ) → b ≤ k → at k ≡ sameBlock (lastRead on Empty (take (edge k) reads)) (firstRead on (drop (edge k) (take p reads)))
-            → (at k || (sameBlock state (Held m) && (leb since k && ltb k b))) ≡ sameBlock (lastRead on Empty (take (edge k) reads)) (firstRead on (drop (edge k) (take (suc p) reads)))
+            → xor (at k) (sameBlock state (Held m) && (leb since k && ltb k b)) ≡ sameBlock (lastRead on Empty (take (edge k) reads)) (firstRead on (drop (edge k) (take (suc p) reads)))
         useful-above k h u =
-            rw (le-ltb k b h, and-false, and-false, or-false)
+            rw (le-ltb k b h, and-false, and-false, xor-false)
             (u ∙ ap (λ (xs : List ℕ). sameBlock (lastRead on Empty (take (edge k) reads)) (firstRead on xs)) (sym (above-same k h)))
 
         useful-below : (k : ℕ) → k < b → (a : Bool) → ltb k since ≡ a → at k ≡ sameBlock (lastRead on Empty (take (edge k) reads)) (firstRead on (drop (edge k) (take p reads)))
-            → (at k || (sameBlock state (Held m) && (leb since k && ltb k b))) ≡ sameBlock (lastRead on Empty (take (edge k) reads)) (firstRead on (drop (edge k) (take (suc p) reads)))
+            → xor (at k) (sameBlock state (Held m) && (leb since k && ltb k b)) ≡ sameBlock (lastRead on Empty (take (edge k) reads)) (firstRead on (drop (edge k) (take (suc p) reads)))
         useful-below k h true a u =
             rw (lt-leb since k (ltb-true k since a), and-false)
-            (or-false (at k) ∙ u ∙ ap (sameBlock (lastRead on Empty (take (edge k) reads))) (sym (first-more k h ∙ rw (w .last k, a) refl)))
+            (xor-false (at k) ∙ u ∙ ap (sameBlock (lastRead on Empty (take (edge k) reads))) (sym (first-more k h ∙ rw (w .last k, a) refl)))
         useful-below k h false a u =
             let unread : anyRead on (drop (edge k) (take p reads)) ≡ false = w .last k ∙ a in
             let none : at k ≡ false =
             u ∙ ap (sameBlock (lastRead on Empty (take (edge k) reads))) (first-none on (drop (edge k) (take p reads)) unread) ∙
             never-empty (lastRead on Empty (take (edge k) reads)) in
             let stayed : state ≡ lastRead on Empty (take (edge k) reads) = w .held ∙ state-from k (before k h) unread in
-            rw (none, le-leb since k (ltb-false k since a), lt-ltb k b h, and-true, stayed)
+            rw (none, false-xor, le-leb since k (ltb-false k since a), lt-ltb k b h, and-true, stayed)
             (ap (sameBlock (lastRead on Empty (take (edge k) reads))) (sym (first-more k h ∙ rw (unread, e) refl)))

@@ -1,15 +1,16 @@
-// For an accepted file: the lines that are useful at each edge, those that each block reads, and those that the preempters evict.
-ghost use mathlib.Core.Bool.{false, _&&_, _||_};
+// For an accepted file: the lines that are useful at each edge, those of them that each block reads, and those that the preempters evict.
+ghost use mathlib.Core.Bool.{false, _&&_, _||_, xor};
 ghost use mathlib.Core.Path.{_≡_};
 ghost use Prim.Native.Nat.{ℕ, _+_, _%_, _<_, _≤_};
 ghost use lib.Dec.{eqb, leb, ltb};
 ghost use lib.ListN.{length};
 ghost use Rattle.model.specs.Task.{blockCount};
-ghost use Rattle.model.specs.Lines.{onLine, anyRead, accessed, accessedUseful, evicted, sameBlock};
+ghost use Rattle.model.specs.Sets.{inWords};
+ghost use Rattle.model.specs.Lines.{onLine, anyRead, accessedUseful, evicted, sameBlock};
 ghost use Rattle.model.specs.Lines as Lines;
 ghost use Rattle.lineset.specs.Members.{members};
 ghost use Rattle.taskfile.specs.File.{verdict, header, taskOf, entryReads};
-ghost use Rattle.reuse.specs.Edges.{linesAt, EdgeSets};
+ghost use Rattle.reuse.specs.Edges.{linesAt, EdgeSets, toggledAt, EdgeToggles};
 use lineset::LineSet;
 use model::Line;
 use model::Verdict;
@@ -22,30 +23,6 @@ pub fn line_of(number: u32, count: u32) -> usize
     (number % count) as usize
 }
 
-// The lines that block k of the file reads.
-pub fn block_lines(file: &[u8], k: usize) -> LineSet
-    requires { ⌜ (verdict (now file) ≡ Verdict.Accepted) × (1 ≤ k) × (k ≤ header (now file) .blocks + header (now file) .preempters) ⌝ }
-    ensures { λ r. ⌜ ((c : ℕ) → members r c ≡ anyRead (onLine (taskOf (now (file .entry))) c) (entryReads (now (file .entry)) k)) ⌝ }
-{
-    let count = taskfile::line_count(file);
-    let reads = taskfile::read_count(file, k);
-    let mut lines = LineSet::empty();
-    let mut j = 0;
-    while j < reads {
-        lines = lines.with(line_of(taskfile::read(file, k, j), count));
-        j += 1;
-    }
-    lines
-}
-
-// T(k): the lines that basic block k reads.
-pub fn accessed_lines(file: &[u8], k: usize) -> LineSet
-    requires { ⌜ (verdict (now file) ≡ Verdict.Accepted) × (1 ≤ k) × (k ≤ blockCount (taskOf (now file))) ⌝ }
-    ensures { λ r. ⌜ ((c : ℕ) → members r c ≡ accessed (taskOf (now (file .entry))) k c) ⌝ }
-{
-    block_lines(file, k)
-}
-
 // H: the lines that the preempters evict.
 pub fn evicted_lines(file: &[u8]) -> LineSet
     requires { ⌜ verdict (now file) ≡ Verdict.Accepted ⌝ }
@@ -53,25 +30,67 @@ pub fn evicted_lines(file: &[u8]) -> LineSet
 {
     let first = taskfile::block_count(file) + 1;
     let end = first + taskfile::preempter_count(file);
-    let mut lines = LineSet::empty();
+    let mut words = [0u64; 8];
     let mut k = first;
     while k < end {
-        lines = lines.union(block_lines(file, k));
+        add_reads(&mut words, file, k);
         k += 1;
     }
-    lines
+    LineSet { words }
 }
 
-// U(k) for every edge k, in one walk over the reads: what each line holds, and the block that read it last.
-pub fn useful_lines(file: &[u8], sets: &mut [u64; 520])
-    requires { ⌜ (verdict (now file) ≡ Verdict.Accepted) × (length (now sets) ≡ 520) ⌝ }
-    ensures { λ _. ⌜ EdgeSets (blockCount (taskOf (now (file .entry)))) (Lines.useful (taskOf (now (file .entry)))) (now (sets .exit)) ⌝ }
+// Adds the lines that block k of the file reads to a set.
+fn add_reads(words: &mut [u64; 8], file: &[u8], k: usize)
+    requires { ⌜ length (now words) ≡ 8 ⌝ }
+    requires { ⌜ (verdict (now file) ≡ Verdict.Accepted) × (1 ≤ k) × (k ≤ header (now file) .blocks + header (now file) .preempters) ⌝ }
+    ensures { λ _. ⌜ length (now (words .exit)) ≡ 8 ⌝ }
+    ensures { λ _. ⌜ ((d : ℕ) → inWords (now (words .exit)) d ≡ (inWords (now (words .entry)) d || anyRead (onLine (taskOf (now (file .entry))) d) (entryReads (now (file .entry)) k))) ⌝ }
+{
+    let count = taskfile::line_count(file);
+    let reads = taskfile::read_count(file, k);
+    let mut j = 0;
+    while j < reads {
+        let c = line_of(taskfile::read(file, k, j), count);
+        let w = c >> 6;
+        words[w] = words[w] | (1 << (c & 63));
+        j += 1;
+    }
+}
+
+// U(k) for every edge k, and A(k) for every basic block k.
+pub fn edge_lines(file: &[u8], useful: &mut [u64; 520], accessed: &mut [u64; 520])
+    requires { ⌜ (verdict (now file) ≡ Verdict.Accepted) × (length (now useful) ≡ 520) × (length (now accessed) ≡ 520) ⌝ }
+    ensures { λ _. ⌜ EdgeSets (blockCount (taskOf (now (file .entry)))) (Lines.useful (taskOf (now (file .entry)))) (now (useful .exit)) ⌝ }
+    ensures { λ _. ⌜ EdgeSets (blockCount (taskOf (now (file .entry)))) (accessedUseful (taskOf (now (file .entry)))) (now (accessed .exit)) ⌝ }
+{
+    clear(useful);
+    clear(accessed);
+    walk_reads(file, useful, accessed);
+    settle(useful);
+    keep_common(accessed, useful);
+}
+
+// Empties the sets of all edges.
+fn clear(sets: &mut [u64; 520])
+    requires { ⌜ length (now sets) ≡ 520 ⌝ }
+    ensures { λ _. ⌜ EdgeSets 64 (λ k c. false) (now (sets .exit)) ⌝ }
+{
+    for i in 0..520 {
+        sets[i] = 0;
+    }
+}
+
+// U(k) as toggles and T(k), in one walk over the reads: what each line holds, and the block that read it last.
+fn walk_reads(file: &[u8], useful: &mut [u64; 520], accessed: &mut [u64; 520])
+    requires { ⌜ verdict (now file) ≡ Verdict.Accepted ⌝ }
+    requires { ⌜ EdgeSets 64 (λ k c. false) (now useful) × EdgeSets 64 (λ k c. false) (now accessed) ⌝ }
+    ensures { λ _. ⌜ EdgeToggles (blockCount (taskOf (now (file .entry)))) (Lines.useful (taskOf (now (file .entry)))) (now (useful .exit)) ⌝ }
+    ensures { λ _. ⌜ EdgeSets (blockCount (taskOf (now (file .entry)))) (Lines.accessed (taskOf (now (file .entry)))) (now (accessed .exit)) ⌝ }
 {
     let blocks = taskfile::block_count(file);
     let count = taskfile::line_count(file);
     let mut held = [Line::Empty; 512];
     let mut since = [0usize; 512];
-    clear(sets);
     let mut i = 0;
     while i < blocks {
         let k = i + 1;
@@ -81,7 +100,8 @@ pub fn useful_lines(file: &[u8], sets: &mut [u64; 520])
             let number = taskfile::read(file, k, j);
             let c = line_of(number, count);
             let line = held[c];
-            add_reread(sets, line, number, c, since[c], k);
+            add_reread(useful, line, number, c, since[c], k);
+            add_line(accessed, c, k);
             held[c] = Line::Held(number);
             since[c] = k;
             j += 1;
@@ -90,45 +110,15 @@ pub fn useful_lines(file: &[u8], sets: &mut [u64; 520])
     }
 }
 
-// A(k) for every basic block k: its useful lines and those that it reads in common.
-pub fn accessed_useful_lines(file: &[u8], useful: &[u64; 520], sets: &mut [u64; 520])
-    requires { ⌜ (verdict (now file) ≡ Verdict.Accepted) × (length (now sets) ≡ 520) ⌝ }
-    requires { ⌜ EdgeSets (blockCount (taskOf (now file))) (Lines.useful (taskOf (now file))) (now useful) ⌝ }
-    ensures { λ _. ⌜ EdgeSets (blockCount (taskOf (now (file .entry)))) (accessedUseful (taskOf (now (file .entry)))) (now (sets .exit)) ⌝ }
-{
-    let blocks = taskfile::block_count(file);
-    clear(sets);
-    let mut k = 0;
-    while k < blocks {
-        k += 1;
-        put_common(sets, useful, k, accessed_lines(file, k));
-    }
-}
-
-// Makes the set of edge k in `sets` the common part of that in `useful` and the lines.
-fn put_common(sets: &mut [u64; 520], useful: &[u64; 520], k: usize, lines: LineSet)
-    requires { ⌜ (length (now sets) ≡ 520) × (length (now useful) ≡ 520) × (k < 65) ⌝ }
-    ensures { λ _. ⌜ length (now (sets .exit)) ≡ 520 ⌝ }
-    ensures { λ _. ⌜ ((d : ℕ) → linesAt (now (sets .exit)) k d ≡ (linesAt (now (useful .entry)) k d && members lines d)) ⌝ }
-    ensures { λ _. ⌜ ((e d : ℕ) → (e ≡ k → ⊥) → linesAt (now (sets .exit)) e d ≡ linesAt (now (sets .entry)) e d) ⌝ }
-{
-    let mut w = 0;
-    while w < 8 {
-        let at = k * 8 + w;
-        sets[at] = useful[at] & lines.words[w];
-        w += 1;
-    }
-}
-
-// Adds line c to the sets of the edges from `from` up to `to` if it holds the number that is read.
+// Toggles line c at the edges from `from` up to `to` if it holds the number that is read.
 fn add_reread(sets: &mut [u64; 520], line: Line, number: u32, c: usize, from: usize, to: usize)
-    requires { ⌜ (length (now sets) ≡ 520) × (c < 512) × (to ≤ 65) ⌝ }
+    requires { ⌜ (length (now sets) ≡ 520) × (c < 512) × (from ≤ to) × (to < 65) ⌝ }
     ensures { λ _. ⌜ length (now (sets .exit)) ≡ 520 ⌝ }
-    ensures { λ _. ⌜ ((k d : ℕ) → k < 65 → linesAt (now (sets .exit)) k d ≡ (linesAt (now (sets .entry)) k d || eqb d c && (sameBlock line (Line.Held number) && (leb from k && ltb k to)))) ⌝ }
+    ensures { λ _. ⌜ ((k d : ℕ) → toggledAt (now (sets .exit)) k d ≡ xor (toggledAt (now (sets .entry)) k d) (sameBlock line (Line.Held number) && eqb d c && (leb from k && ltb k to))) ⌝ }
 {
-    if holds(line, number) {
-        add_line(sets, c, from, to);
-    }
+    let again = holds(line, number);
+    toggle(sets, again, c, from);
+    toggle(sets, again, c, to);
 }
 
 // Whether a line holds this memory block.
@@ -141,30 +131,44 @@ fn holds(line: Line, number: u32) -> bool
     }
 }
 
-// Empties the sets of all edges.
-fn clear(sets: &mut [u64; 520])
-    requires { ⌜ length (now sets) ≡ 520 ⌝ }
-    ensures { λ _. ⌜ EdgeSets 64 (λ k c. false) (now (sets .exit)) ⌝ }
+// Toggles line c at edge k and all later edges, if on.
+fn toggle(sets: &mut [u64; 520], on: bool, c: usize, k: usize)
+    requires { ⌜ (length (now sets) ≡ 520) × (c < 512) × (k < 65) ⌝ }
+    ensures { λ _. ⌜ length (now (sets .exit)) ≡ 520 ⌝ }
+    ensures { λ _. ⌜ ((e d : ℕ) → toggledAt (now (sets .exit)) e d ≡ xor (toggledAt (now (sets .entry)) e d) (on && eqb d c && leb k e)) ⌝ }
 {
-    let mut i = 0;
-    while i < 520 {
-        sets[i] = 0;
-        i += 1;
+    let at = k * 8 + (c >> 6);
+    sets[at] = sets[at] ^ ((on as u64) << (c & 63));
+}
+
+// Adds line c to the set of edge k.
+fn add_line(sets: &mut [u64; 520], c: usize, k: usize)
+    requires { ⌜ (length (now sets) ≡ 520) × (c < 512) × (k < 65) ⌝ }
+    ensures { λ _. ⌜ length (now (sets .exit)) ≡ 520 ⌝ }
+    ensures { λ _. ⌜ ((e d : ℕ) → linesAt (now (sets .exit)) e d ≡ (linesAt (now (sets .entry)) e d || eqb d c && eqb e k)) ⌝ }
+{
+    let at = k * 8 + (c >> 6);
+    sets[at] = sets[at] | (1 << (c & 63));
+}
+
+// Makes the sets of all edges from their toggles: each edge's lines are those of the edge before it, toggled.
+fn settle(sets: &mut [u64; 520])
+    requires { ⌜ length (now sets) ≡ 520 ⌝ }
+    ensures { λ _. ⌜ length (now (sets .exit)) ≡ 520 ⌝ }
+    ensures { λ _. ⌜ ((k d : ℕ) → k < 65 → linesAt (now (sets .exit)) k d ≡ toggledAt (now (sets .entry)) k d) ⌝ }
+{
+    for i in 8..520 {
+        sets[i] = sets[i] ^ sets[i - 8];
     }
 }
 
-// Adds a line to the sets of the edges from `from` up to `to`.
-fn add_line(sets: &mut [u64; 520], line: usize, from: usize, to: usize)
-    requires { ⌜ (length (now sets) ≡ 520) × (line < 512) × (to ≤ 65) ⌝ }
+// Keeps the lines that are in the other sets too.
+fn keep_common(sets: &mut [u64; 520], others: &[u64; 520])
+    requires { ⌜ (length (now sets) ≡ 520) × (length (now others) ≡ 520) ⌝ }
     ensures { λ _. ⌜ length (now (sets .exit)) ≡ 520 ⌝ }
-    ensures { λ _. ⌜ ((k d : ℕ) → k < 65 → linesAt (now (sets .exit)) k d ≡ (linesAt (now (sets .entry)) k d || eqb d line && (leb from k && ltb k to))) ⌝ }
+    ensures { λ _. ⌜ ((k d : ℕ) → k < 65 → linesAt (now (sets .exit)) k d ≡ (linesAt (now (sets .entry)) k d && linesAt (now (others .entry)) k d)) ⌝ }
 {
-    let w = line >> 6;
-    let bit = 1u64 << (line & 63);
-    let mut k = from;
-    while k < to {
-        let at = k * 8 + w;
-        sets[at] = sets[at] | bit;
-        k += 1;
+    for i in 0..520 {
+        sets[i] = sets[i] & others[i];
     }
 }

@@ -3,9 +3,9 @@
 use Prim.Native.Nat.{ℕ, _-_, _≤_, _<_}
 use mathlib.Core.Path.{_≡_, _∙_}
 use native.Mathlib.Omega.{arith}
-use lib.ListN.{length, getD, length-set}
 use lib.Seq.{getD-set-same, getD-set-other}
-use borrow.Author.Count.{below-none, below-more}
+use lib.ListN.{length, getD, length-set}
+use borrow.Author.Count.{below-more}
 use Rattle.reuse.proofs.Edges.{no-lines}
 use Rattle.reuse.proofs.clear.Statement.{statement}
 use Rattle.reuse.proofs.clear.Tie as tie

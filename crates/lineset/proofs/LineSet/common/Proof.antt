@@ -12,13 +12,13 @@ use Rattle.lineset.proofs.LineSet.common.Statement.{statement}
 use Rattle.lineset.proofs.LineSet.common.Tie as tie
 
 abbrev Inv-loop : tie.InvT-loop
-Inv-loop self₀ other w₀ self w = Joined bitAnd (self₀ .words) (other .words) w (self .words)
+Inv-loop self₀ other w₀ self w = Joined bitAnd 8 (self₀ .words) (other .words) w (self .words)
 
 abbrev μ-loop : tie.MeasureT-loop
 μ-loop self₀ other w₀ self w = 8 - w
 
 loop-holds : tie.Need-loop-holds Inv-loop μ-loop
-loop-holds c = joined-none bitAnd _ _ (search needs)
+loop-holds c = joined-none bitAnd 8 _ _ (search needs)
 
 mul-self : tie.Need-mul-self Inv-loop μ-loop
 mul-self c = omega arith
@@ -45,10 +45,10 @@ loop-less : tie.Need-loop-less Inv-loop μ-loop
 loop-less c = omega arith
 
 loop-again : tie.Need-loop-again Inv-loop μ-loop
-loop-again c = joined-more bitAnd _ _ _ _ (omega arith) (c .before .before .before .loop .inv)
+loop-again c = joined-more bitAnd 8 _ _ _ _ (omega arith) (c .before .before .before .loop .inv)
 
 returns : tie.Need-returns Inv-loop μ-loop
-returns c = in-joined bitAnd _ _ _&&_ refl digit-and (search needs) _ _ (c .loop-test .left) (c .before .loop .inv)
+returns c = in-joined bitAnd 8 _ _ _&&_ refl digit-and (search needs) _ _ (c .loop-test .left) (c .before .loop .inv)
 
 pub common-spec : {M : Type 1} → statement M
 common-spec =

@@ -2,6 +2,7 @@
 # make example      build the C example and hold what it prints on File Seven to its file 'expected'
 # make release      the library, its header and how to link them, in one archive
 # make test-c       unpack the release and call it from C
+# make test-plan    prove the program plan and run it on a file that no list of points fits
 # make clean        remove all that was built
 
 CC := gcc
@@ -12,7 +13,7 @@ NAME := preempt-$(VERSION)
 RELEASE := target/release/$(NAME)
 UNPACKED := target/test-c/$(NAME)
 
-.PHONY: lib example release test-c clean
+.PHONY: lib example release test-c test-plan clean
 .DELETE_ON_ERROR:
 
 lib: $(LIB)
@@ -46,6 +47,10 @@ test-c: $(RELEASE).tar.gz
 	grep -q "needs: $$needs$$" $(UNPACKED)/LINKING.txt || { echo "LINKING.txt does not say that the archive needs: $$needs"; exit 1; }
 	$(CC) $(CFLAGS) -I$(UNPACKED)/include tests/c/release.c $(UNPACKED)/lib/libfirmware.a -o target/test-c/release
 	ulimit -s 128 && env -i target/test-c/release examples/firmware/seven.bin
+
+test-plan:
+	rt check plan
+	test "$$(target/bin/plan <crates/planner_cases/data/seven-29)" = 'refused 6 at 0'
 
 clean:
 	rm -rf target

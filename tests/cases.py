@@ -234,6 +234,7 @@ def planner_tasks():
         ("seven-29", seven(29)),
         ("one-60", seven(60, lone)),
         ("one-59", seven(59, lone)),
+        ("same-read", seven(60, [(20, [0])] * 4)),  # regions (1, 2) and (2, 3) reload line 0
         ("high-70", Task(512, 70, 10, 3, high, preempters)),
         ("high-45", Task(512, 45, 10, 3, high, preempters)),
         ("wide", Task(512, MOST, MOST, MOST, same, [(0, [1])])),

@@ -18,6 +18,7 @@ use Rattle.model.specs.declared.Refusal.{Refusal}
 use Rattle.model.specs.declared.Refusal.the-variants.{NoPlacement}
 use Rattle.model.specs.declared.Verdict.{Verdict}
 use Rattle.model.specs.declared.Verdict.the-variants.{Accepted, Refused}
+use Rattle.model.proofs.Verdicts.{never-both}
 use Rattle.model.proofs.Regions.{accepted-well-formed}
 use Rattle.model.proofs.Places.{placeIn, then-most, pricing-most}
 use Rattle.taskfile.specs.File.{verdict, taskOf}
@@ -27,17 +28,12 @@ use Rattle.planblock.specs.Plans.{planVerdict, planBytes, readVerdict, planOf}
 use Rattle.planblock.proofs.Verdicts.{count-accepted, read-place}
 use Rattle.planblock.proofs.Roundtrip.{store-back}
 use Rattle.planblock.proofs.Lists.{list-stores}
-use Rattle.planner.proofs.Plans.{never}
 use Rattle.planner.specs.Calls.{PlanAnswer, blockVerdict, blockRefused, blockPlan}
 use Rattle.firmware.specs.Calls.{PlanCall, StoredBest}
 
 pub place-of : (v : Verdict) (x : Refusal) → placeIn v ≤ 97 → v ≡ Refused x → place x ≤ 97
 unfolding placeIn
 place-of v x h e = rw e at h
-
-pub is-accepted : (v : Verdict) → accepted v ≡ true → v ≡ Accepted
-is-accepted Accepted e = refl
-is-accepted (Refused x) e = absurd (false≢true e)
 
 pub on-refused : {A : Type 0} (v : Verdict) (a b : A) → accepted v ≡ false → b ≡ onAccepted v a b
 on-refused Accepted a b e = absurd (false≢true (sym e))
@@ -69,7 +65,7 @@ plan-stores file v p answer a = go (verdict file) refl
   where
     go : (w : Verdict) → verdict file ≡ w → planVerdict p ≡ Accepted
     go Accepted e = rw (answer .planned e .follows a) (stores file (chosen p) e (answer .planned e .best a .well-formed))
-    go (Refused x) e = absurd (never (sym a ∙ answer .refused x e .0))
+    go (Refused x) e = absurd (never-both (sym a ∙ answer .refused x e .0))
 
 -- what `leave` does with the answer is what the call promises
 pub plan-call : (file block : List ℕ) (v : Verdict) (p : Plan) (r : ℕ) (left : List ℕ) → length block ≡ 512 → PlanAnswer file v p
@@ -105,8 +101,8 @@ module _ (file points : List ℕ) where
       go : (v w : Verdict) → andThen v (andThen w (pricing (taskOf file) (chosen (planOf points)))) ≡ Accepted
           → (v ≡ Accepted) × (w ≡ Accepted) × (pricing (taskOf file) (chosen (planOf points)) ≡ Accepted)
       go Accepted Accepted q = (refl, refl, q)
-      go Accepted (Refused x) q = absurd (never (sym q))
-      go (Refused x) w q = absurd (never (sym q))
+      go Accepted (Refused x) q = absurd (never-both (sym q))
+      go (Refused x) w q = absurd (never-both (sym q))
 
   pub block-most : placeIn (blockVerdict file points) ≤ 97
   unfolding blockVerdict

@@ -16,10 +16,11 @@ use Rattle.model.specs.Lines.{lineOf, onLine, lastRead, firstRead, anyRe
 use Rattle.model.specs.Lists.{steps, regions, every, total, lowest, wellFormed, among, sameList, risingLists, allLists}
 use Rattle.model.specs.Regions.{unionAfter, timeAfter, loaded, regionLines, regionLength, regionFits, regionCost, lines, cost, fits}
 use Rattle.model.specs.Answers.{accepted, pricing, number, place}
-use Rattle.model.specs.Cases.{Case, usefulAre, accessedUsefulAre, loadedAre, lengthIs, bestAre, fittingAre, noneFits, priced, refused, lineIs, listed, Holds, cases}
+use Rattle.model.specs.Cases.{Case, usefulAre, accessedUsefulAre, evictedAre, loadedAre, lengthIs, bestAre, fittingAre, noneFits, priced, refused, lineIs, listed, Holds, cases}
 use Rattle.model.specs.declared.Refusal.{Refusal}
 use Rattle.model.specs.declared.Verdict.{Verdict}
 use Rattle.model.specs.declared.Verdict.the-variants.{Accepted, Refused}
+use Rattle.model.proofs.Verdicts.{is-accepted}
 use Rattle.model.proofs.Lists.{and-split, same-list, list-same, enumerated}
 
 -- the tests
@@ -51,6 +52,7 @@ refusedBy n i (Refused r) = eqb (number r) n && eqb (place r) i
 test : Case → Bool
 test (usefulAre t k ds) = agreeBelow 512 (useful t k) (listed ds)
 test (accessedUsefulAre t k ds) = agreeBelow 512 (accessedUseful t k) (listed ds)
+test (evictedAre t ds) = agreeBelow 512 (evicted t) (listed ds)
 test (loadedAre t a b ds) = agreeBelow 512 (loaded t a b) (listed ds)
 test (lengthIs t a b l) = eqb (regionLength t a b) l
 test (bestAre t p pss) = some pss && everyList (λ ps. eqb (cost t ps) p) pss && exactly t (λ ps. fits t ps && leb (cost t ps) p) pss
@@ -140,10 +142,6 @@ module _ (t : Task) (p : ℕ) (pss : List (List ℕ)) (e : everyList (λ ps. eqb
         within ps (b .well-formed) (b .fits) (le-trans (b .least qs (parts qs m .0) (parts qs m .1)) (le-of-eq (costs qs m))),
   )
 
-is-accepted : (v : Verdict) → accepted v ≡ true → v ≡ Accepted
-is-accepted Accepted h = refl
-is-accepted (Refused r) h = absurd (false≢true h)
-
 is-refused : (n i : ℕ) (v : Verdict) → refusedBy n i v ≡ true → (r : Refusal) × (v ≡ Refused r) × (number r ≡ n) × (place r ≡ i)
 unfolding refusedBy
 is-refused n i Accepted h = absurd (false≢true h)
@@ -155,6 +153,7 @@ sound : (c : Case) → test c ≡ true → Holds c
 unfolding test onLine
 sound (usefulAre t k ds) h = agree 512 (useful t k) (listed ds) h
 sound (accessedUsefulAre t k ds) h = agree 512 (accessedUseful t k) (listed ds) h
+sound (evictedAre t ds) h = agree 512 (evicted t) (listed ds) h
 sound (loadedAre t a b ds) h = agree 512 (loaded t a b) (listed ds) h
 sound (lengthIs t a b l) h = eqb-true (regionLength t a b) l h
 sound (bestAre t p pss) h =
@@ -179,6 +178,6 @@ unfolding everyCase
 held (d ∷ ds) h c (List·Memᴰ·head e) = rw e (sound d (and-split (test d) (everyCase ds) h .0))
 held (d ∷ ds) h c (List·Memᴰ·tail m) = held ds (and-split (test d) (everyCase ds) h .1) c m
 
--- File Seven's cases and appendix A's, all at once
+-- all at once
 pub cases-hold : (c : Case) → List·Memᴰ c cases → Holds c
 cases-hold = held cases all-pass

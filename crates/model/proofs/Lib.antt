@@ -2,6 +2,7 @@ pub mod Digits
 pub mod Sets
 pub mod LineStates
 pub mod ReadOrder
+pub mod Verdicts
 pub mod Lists
 pub mod Regions
 pub mod Places

@@ -5,12 +5,12 @@ use native.Mathlib.Nat.{mod-lt}
 use native.Mathlib.Numerals.{add-one}
 use native.Mathlib.Omega.{arith}
 use lib.ListN.{length, getD, take, drop}
-use lib.Seq.{take-suc}
+use lib.Seq.{take-suc, drop-length}
 use borrow.Author.Tests.{ne-eqb}
 use mathlib.Core.Path.{_≡_, refl, sym, ap, _∙_}
 use mathlib.Core.Bool.{Bool, true, false, cond, _||_, or-assoc, or-false, true≢false}
 use mathlib.Core.List.{List, [], _∷_, _++_}
-use Rattle.model.specs.Task.{Task}
+use Rattle.model.specs.Task.{Task, blockCount}
 use Rattle.model.specs.Lines.{lineOf, onLine, lastRead, firstRead, anyRead, sameBlock, readsOf, stateAfter, nextRead, useful}
 use Rattle.model.specs.declared.Line.{Line}
 use Rattle.model.specs.declared.Line.the-variants.{Empty, Held}
@@ -66,6 +66,20 @@ module _ (on : ℕ → Bool) where
 pub never-empty : (l : Line) → sameBlock l Empty ≡ false
 never-empty Empty = refl
 never-empty (Held n) = refl
+
+-- nothing is held before the first read, and nothing is read after the last: U(0) and U(N) are empty
+
+pub useful-start : (t : Task) (c : ℕ) → useful t 0 c ≡ false
+unfolding useful stateAfter readsOf lastRead
+useful-start t c = holds-none (nextRead t 0 c)
+  where
+    holds-none : (l : Line) → sameBlock Empty l ≡ false
+    holds-none Empty = refl
+    holds-none (Held n) = refl
+
+pub useful-end : (t : Task) (c : ℕ) → useful t (blockCount t) c ≡ false
+unfolding useful nextRead readsOf firstRead
+useful-end t c = rw (drop-length (t .blocks)) (never-empty (stateAfter t (blockCount t) c))
 
 -- no number lies on a line beyond the cache, so none is useful there
 module _ (t : Task) (least : 1 ≤ t .lineCount) (c : ℕ) (beyond : t .lineCount ≤ c) where

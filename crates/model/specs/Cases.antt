@@ -1,4 +1,4 @@
--- Document 01's cases marked P, and document 004's appendix A. A case is a claim on a task; a claim about lists is one about every list.
+-- Document 01's cases marked P, two more of its rules on small tasks, and document 004's appendix A. A case is a claim on a task; a claim about lists is one about every list.
 -- Assumes nothing.
 use Prim.Native.Nat.{ℕ, _<_}
 use mathlib.Core.Path.{_≡_}
@@ -7,7 +7,7 @@ use mathlib.Core.List.{List, [], _∷_}
 use lib.Dec.{eqb}
 use Rattle.model.specs.Sets.{Lines}
 use Rattle.model.specs.Task.{Block, Preempter, Task, blockCount}
-use Rattle.model.specs.Lines.{onLine, useful, accessedUseful}
+use Rattle.model.specs.Lines.{onLine, useful, accessedUseful, evicted}
 use Rattle.model.specs.Lists.{wellFormed, among}
 use Rattle.model.specs.Regions.{loaded, regionLength, lines, cost, fits, BestList, NoPlacementFits}
 use Rattle.model.specs.Answers.{pricing, number, place}
@@ -17,6 +17,7 @@ use Rattle.model.specs.declared.Verdict.the-variants.{Accepted, Refused}
 pub data Case : Type 0 where
   usefulAre : Task → ℕ → List ℕ → Case  -- U(k) is these lines
   accessedUsefulAre : Task → ℕ → List ℕ → Case  -- A(k) is these lines
+  evictedAre : Task → List ℕ → Case  -- H is these lines
   loadedAre : Task → ℕ → ℕ → List ℕ → Case  -- loaded(a, b) is these lines
   lengthIs : Task → ℕ → ℕ → ℕ → Case  -- the length of region (a, b)
   bestAre : Task → ℕ → List (List ℕ) → Case  -- the least cost, and all the lists that reach it
@@ -37,6 +38,7 @@ Are s ds = (c : ℕ) → c < 512 → s c ≡ listed ds c
 abbrev pub Holds : Case → Type 0
 Holds (usefulAre t k ds) = Are (useful t k) ds
 Holds (accessedUsefulAre t k ds) = Are (accessedUseful t k) ds
+Holds (evictedAre t ds) = Are (evicted t) ds
 Holds (loadedAre t a b ds) = Are (loaded t a b) ds
 Holds (lengthIs t a b l) = regionLength t a b ≡ l
 Holds (bestAre t p pss) =
@@ -68,6 +70,18 @@ fileSeven s q =
 -- one basic block of 60 ticks
 abbrev pub oneBlock : ℕ → Task
 oneBlock q = record { id = 7; lineCount = 4; limit = q; reload = 10; blocks = block 60 [] ∷ []; preempters = [] }
+
+-- four basic blocks that read one number, which the preempter's evicts
+abbrev pub sameRead : Task
+sameRead =
+    record {
+      id = 7;
+      lineCount = 4;
+      limit = 60;
+      reload = 10;
+      blocks = block 20 (0 ∷ []) ∷ block 20 (0 ∷ []) ∷ block 20 (0 ∷ []) ∷ block 20 (0 ∷ []) ∷ [];
+      preempters = preempter (4 ∷ []) ∷ [];
+    }
 
 -- appendix A's task 1, its last block run once more, preempted by the five blocks of task 2
 abbrev pub appendixA : Task
@@ -108,6 +122,10 @@ cases =
     bestAre (oneBlock 60) 0 ([] ∷ []) ∷ noneFits (oneBlock 59) ∷
     -- S 512: number 300 is line 300, 512 is line 0
     lineIs (fileSeven 512 60) 300 300 ∷ lineIs (fileSeven 512 60) 512 0 ∷
+    -- File Seven's H is {0, 1}
+    evictedAre (fileSeven 4 60) (0 ∷ 1 ∷ []) ∷
+    -- a line that two regions reload counts twice
+    loadedAre sameRead 1 2 (0 ∷ []) ∷ loadedAre sameRead 2 3 (0 ∷ []) ∷ priced sameRead (1 ∷ 2 ∷ 3 ∷ []) 2 20 ∷
     -- 004, figure 9: the useful lines of task 1
     usefulAre appendixA 1 (1 ∷ 2 ∷ []) ∷ usefulAre appendixA 2 (1 ∷ 2 ∷ 4 ∷ 8 ∷ []) ∷ usefulAre appendixA 3 (1 ∷ 2 ∷ 8 ∷ []) ∷
     usefulAre appendixA 4 (1 ∷ 2 ∷ 7 ∷ 8 ∷ []) ∷ usefulAre appendixA 5 (1 ∷ 2 ∷ 7 ∷ 8 ∷ []) ∷

@@ -2,7 +2,7 @@
 -- Assumes nothing.
 use Prim.Native.Nat.{ℕ, _+_, _-_, _*_, _^_, _<_, _≤_}
 use mathlib.Core.Path.{_≡_, refl, sym, ap, _∙_}
-use mathlib.Core.Bool.{Bool, true, false, cond, false≢true}
+use mathlib.Core.Bool.{Bool, true, false, cond}
 use mathlib.Core.List.{List, [], _++_, append-nil}
 use native.Mathlib.Omega.{arith}
 use lib.Dec.{eqb}
@@ -16,6 +16,7 @@ use Rattle.model.specs.declared.Plan.{Plan}
 use Rattle.model.specs.declared.Refusal.the-variants.{Length, Checksum, Block as WrongBlock, Output}
 use Rattle.model.specs.declared.Verdict.{Verdict}
 use Rattle.model.specs.declared.Verdict.the-variants.{Accepted, Refused}
+use Rattle.model.proofs.Verdicts.{never-both, is-accepted}
 use Rattle.model.proofs.Lists.{and-split}
 use Rattle.block.specs.Bytes.{le, les, field, fields}
 use Rattle.block.specs.Blocks.{numbered, checksumRight, bodyRight}
@@ -23,7 +24,7 @@ use Rattle.block.proofs.Bytes.{length-le, field-le, field-take, length-fields, 
 use Rattle.block.proofs.Blocks.{length-numbered, length-sealed, checksum-sealed, body-sealed, block-named, block-is, lowest-nowhere}
 use Rattle.planblock.specs.Plans.{entryRight, planVerdict, planHead, planNamed, planBytes, planOf, planRight, readVerdict, storeVerdict, stored, PlanFits}
 use Rattle.planblock.proofs.Storing.{length-head, length-named}
-use Rattle.planblock.proofs.Verdicts.{not-both, accepted-parts, count-accepted}
+use Rattle.planblock.proofs.Verdicts.{accepted-parts, count-accepted}
 
 -- the last number of what a list begins with is read, and the rest is what it begins with
 last-read : (bs xs : List ℕ) (from w v : ℕ) → take (from + w) bs ≡ xs ++ le w v → from + w ≤ length bs → v < 256 ^ w
@@ -109,13 +110,9 @@ read-parts bs e = go (eqb (length bs) 512) (checksumRight bs) (planRight bs) e
     go : (a b c : Bool) → cond a (cond b (cond c Accepted (Refused (WrongBlock 0))) (Refused (Checksum 0))) (Refused Length) ≡ Accepted
         → (b ≡ true) × (c ≡ true)
     go true true true q = (refl, refl)
-    go true true false q = absurd (not-both q)
-    go true false c q = absurd (not-both q)
-    go false b c q = absurd (not-both q)
-
-is-accepted : (v : Verdict) → accepted v ≡ true → v ≡ Accepted
-is-accepted Accepted q = refl
-is-accepted (Refused r) q = absurd (false≢true q)
+    go true true false q = absurd (never-both (sym q))
+    go true false c q = absurd (never-both (sym q))
+    go false b c q = absurd (never-both (sym q))
 
 -- a readable block's plan is stored as the same bytes
 pub store-back : (bs : List ℕ) → readVerdict bs ≡ Accepted → (planVerdict (planOf bs) ≡ Accepted) × (planBytes (planOf bs) ≡ bs)
@@ -138,7 +135,7 @@ stored-reads p out f e = rw e (read-back p f (go (eqb (length out) 512) e))
   where
     go : (b : Bool) → cond b (planVerdict p) (Refused Output) ≡ Accepted → planVerdict p ≡ Accepted
     go true q = q
-    go false q = absurd (not-both q)
+    go false q = absurd (never-both (sym q))
 
 pub read-stores : (bs out : List ℕ) → readVerdict bs ≡ Accepted → length out ≡ 512 → (storeVerdict (planOf bs) out ≡ Accepted) × (stored (planOf bs) out ≡ bs)
 unfolding storeVerdict stored

@@ -1,7 +1,7 @@
 -- Laws of verdicts on plans: what the test of the entries says step by step, and what an accepted plan has.
 -- Assumes nothing.
 use Prim.Native.Nat.{ℕ, suc, _-_, _<_, _≤_}
-use mathlib.Core.Path.{_≡_, refl}
+use mathlib.Core.Path.{_≡_, refl, sym}
 use mathlib.Core.Bool.{Bool, true, false, cond, _&&_, and-false}
 use mathlib.Core.List.{List}
 use native.Mathlib.Omega.{arith}
@@ -12,17 +12,14 @@ use Rattle.model.specs.Answers.{refusedAt}
 use Rattle.model.specs.declared.Place.{Place}
 use Rattle.model.specs.declared.Place.the-variants.{Nowhere, At}
 use Rattle.model.specs.declared.Plan.{Plan}
-use Rattle.model.specs.declared.Refusal.{Refusal}
 use Rattle.model.specs.declared.Refusal.the-variants.{Length, Checksum, Block as WrongBlock, Argument}
 use Rattle.model.specs.declared.Verdict.the-variants.{Accepted, Refused}
+use Rattle.model.proofs.Verdicts.{never-both}
 use Rattle.model.proofs.Lists.{and-split}
 use Rattle.model.proofs.Places.{placeIn}
 use Rattle.block.specs.Bytes.{field}
 use Rattle.block.specs.Blocks.{checksumRight, lowestFrom}
 use Rattle.planblock.specs.Plans.{entryRight, planInRange, planVerdict, planOf, planRight, readVerdict}
-
-pub not-both : {r : Refusal} → Refused r ≡ Accepted → ⊥
-not-both q = let z : _≡_ {A = ℕ} 0 1 = cc in omega arith
 
 pub lowest-step : (f : ℕ → Bool) (i n : ℕ) → i < n → lowestFrom f i (n - i) ≡ cond (f i) (lowestFrom f (suc i) (n - suc i)) (At i)
 unfolding lowestFrom
@@ -36,8 +33,8 @@ accepted-parts p e = go (planInRange p) (lowestFrom (entryRight p) 0 64) e
   where
     go : (b : Bool) (k : Place) → cond b (refusedAt k Argument Accepted) (Refused (Argument 0)) ≡ Accepted → (b ≡ true) × (k ≡ Nowhere)
     go true Nowhere q = (refl, refl)
-    go true (At i) q = absurd (not-both q)
-    go false k q = absurd (not-both q)
+    go true (At i) q = absurd (never-both (sym q))
+    go false k q = absurd (never-both (sym q))
 
 pub count-accepted : (p : Plan) → planVerdict p ≡ Accepted → p .count ≤ 63
 unfolding planInRange

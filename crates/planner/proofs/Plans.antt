@@ -15,27 +15,25 @@ use Rattle.model.specs.declared.Refusal.{Refusal}
 use Rattle.model.specs.declared.Refusal.the-variants.{NoPlacement}
 use Rattle.model.specs.declared.Verdict.{Verdict}
 use Rattle.model.specs.declared.Verdict.the-variants.{Accepted, Refused}
+use Rattle.model.proofs.Verdicts.{never-both}
 use Rattle.model.proofs.Regions.{fits-accepted, lines-most}
 use Rattle.placement.specs.Table.{Holds, Placed}
 use Rattle.placement.specs.declared.Placement.{Placement}
 use Rattle.regions.specs.Answers.{Prices}
 use Rattle.regions.specs.declared.Price.{Price}
 
-pub never : {x : Refusal} → Accepted ≡ Refused x → ⊥
-never e = let z : _≡_ {A = ℕ} 0 1 = cc in omega arith
-
 -- two verdicts before a third
 
 pub before-refused : (u v w : Verdict) (x : Refusal) → andThen u v ≡ Refused x
     → (andThen u (andThen v w) ≡ Refused x) × ((accepted u && not (accepted v)) ≡ accepted u)
-before-refused Accepted Accepted w x e = absurd (never e)
+before-refused Accepted Accepted w x e = absurd (never-both e)
 before-refused Accepted (Refused y) w x e = (e, refl)
 before-refused (Refused y) v w x e = (e, refl)
 
 pub before-accepted : (u v : Verdict) → andThen u v ≡ Accepted → (u ≡ Accepted) × (v ≡ Accepted)
 before-accepted Accepted Accepted e = (refl, refl)
-before-accepted Accepted (Refused y) e = absurd (never (sym e))
-before-accepted (Refused y) v e = absurd (never (sym e))
+before-accepted Accepted (Refused y) e = absurd (never-both (sym e))
+before-accepted (Refused y) v e = absurd (never-both (sym e))
 
 -- the first points of an array, zeros after them, and their price: the plan that follows from the list
 module _ (count : ℕ) (points : List ℕ) (few : count ≤ 63) (zeros : drop count points ≡ replicate (64 - count) 0) where
@@ -81,8 +79,8 @@ module _ (t : Task) (table : List ℕ) (r : Placement) (holds : Holds table (blo
       let none : NoPlacementFits t = placed .refuses (regionFits t) (regionCost t) holds f in
       record {
         answers = inr refl;
-        best = λ e. absurd (never (sym e));
-        follows = λ e. absurd (never (sym e));
+        best = λ e. absurd (never-both (sym e));
+        follows = λ e. absurd (never-both (sym e));
         none-fits = λ e. none;
         exactly = λ e. refl;
         empty = λ e. refl;
@@ -104,7 +102,7 @@ module _ (t : Task) (table : List ℕ) (r : Placement) (holds : Holds table (blo
           answers = inl refl;
           best = λ e. best;
           follows = λ e. follows (r .count) (r .points) (omega (arith, placed .fewer)) (placed .beyond) t list-accepted price prices;
-          none-fits = λ e. absurd (never e);
+          none-fits = λ e. absurd (never-both e);
           exactly = λ none. absurd (none (take (r .count) (r .points)) (best .well-formed) (best .fits));
-          empty = λ e. absurd (never e);
+          empty = λ e. absurd (never-both e);
         }

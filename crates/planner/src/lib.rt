@@ -250,13 +250,13 @@ fn price_points(
 }
 
 // The plan of another plan's points: N and id are the file's.
-fn plan_of(n: usize, id: u32, first: Plan, price: Price) -> Plan
-    requires { ⌜ (n ≤ 64) × (price .lines < 65536) ⌝ }
-    ensures { λ r. ⌜ r ≡ record { blocks = n; id = id; count = first .count; lines = price .lines; cost = price .cost; points = first .points } ⌝ }
+fn plan_of(blocks: usize, id: u32, first: Plan, price: Price) -> Plan
+    requires { ⌜ (blocks ≤ 64) × (price .lines < 65536) ⌝ }
+    ensures { λ r. ⌜ r ≡ record { blocks = blocks; id = id; count = first .count; lines = price .lines; cost = price .cost; points = first .points } ⌝ }
 {
     let points = first.points;
     Plan {
-        blocks: n as u16,
+        blocks: blocks as u16,
         id,
         count: first.count,
         lines: price.lines as u16,

@@ -1,7 +1,7 @@
 -- What the answer Accepted says of a file, and the task that an accepted file holds, block by block.
 -- Assumes nothing.
 use Prim.Native.Nat.{ℕ, zero, suc, _+_, _*_, _/_, _%_, _<_, _≤_}
-use mathlib.Core.Path.{_≡_, refl, ap}
+use mathlib.Core.Path.{_≡_, refl, sym, ap}
 use mathlib.Core.Bool.{Bool, true, false, cond, _&&_}
 use mathlib.Core.List.{List, [], _++_, append-nil, append-assoc}
 use native.Mathlib.Nat.{zero-add, add-zero, add-suc, suc-add, add-comm, mul-comm}
@@ -15,9 +15,9 @@ use Rattle.model.specs.Lines.{preempterReads, blockAt}
 use Rattle.model.specs.declared.Place.{Place}
 use Rattle.model.specs.declared.Place.the-variants.{Nowhere, At}
 use Rattle.model.specs.Answers.{refusedAt}
-use Rattle.model.specs.declared.Refusal.{Refusal}
 use Rattle.model.specs.declared.Refusal.the-variants.{Length, Checksum, Header as WrongHeader, BlockCount, Block as WrongBlock}
 use Rattle.model.specs.declared.Verdict.the-variants.{Accepted, Refused}
+use Rattle.model.proofs.Verdicts.{never-both}
 use Rattle.model.proofs.Lists.{and-split}
 use Rattle.block.specs.Bytes.{field}
 use Rattle.block.specs.Blocks.{checksumRight, bodyRight, lowestFrom}
@@ -25,20 +25,17 @@ use Rattle.block.proofs.Bytes.{field-part, length-fields, getD-fields}
 use Rattle.block.proofs.Blocks.{lowest-nowhere}
 use Rattle.taskfile.specs.File.{Header, headerBytes, headerInRange, headerRight, readsIn, basicOf, preempterOf, blockIn, blocksIn, entryReads, header, blockRight, lengthRight, verdict, collect, taskOf}
 
-refused-not : {A : Type 0} {r : Refusal} → Refused r ≡ Accepted → A
-refused-not e = let z : _≡_ {A = ℕ} 0 1 = cc in absurd (omega arith)
-
 -- an answer is Accepted where each of its tests holds
 tests : (size : Bool) (sum : Place) (head count : Bool) (body : Place)
     → cond size (refusedAt sum Checksum (cond head (cond count (refusedAt body WrongBlock Accepted) (Refused BlockCount)) (Refused WrongHeader))) (Refused Length)
     ≡ Accepted
     → (size ≡ true) × (sum ≡ Nowhere) × (head ≡ true) × (count ≡ true) × (body ≡ Nowhere)
 tests true Nowhere true true Nowhere e = (refl, refl, refl, refl, refl)
-tests true Nowhere true true (At k) e = refused-not e
-tests true Nowhere true false body e = refused-not e
-tests true Nowhere false count body e = refused-not e
-tests true (At k) head count body e = refused-not e
-tests false sum head count body e = refused-not e
+tests true Nowhere true true (At k) e = absurd (never-both (sym e))
+tests true Nowhere true false body e = absurd (never-both (sym e))
+tests true Nowhere false count body e = absurd (never-both (sym e))
+tests true (At k) head count body e = absurd (never-both (sym e))
+tests false sum head count body e = absurd (never-both (sym e))
 
 -- an accepted file, of 1 + N + M blocks
 pub record AcceptedFile (file : List ℕ) : Type 0 where

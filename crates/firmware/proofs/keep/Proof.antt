@@ -4,7 +4,8 @@ use mathlib.Core.Path.{sym, _∙_}
 use lib.ListN.{length}
 use borrow.Author.Tests.{eq-eqb}
 use Rattle.planblock.specs.Plans.{planBytes, storeVerdict, stored}
-use Rattle.firmware.proofs.Answers.{is-accepted, on-refused}
+use Rattle.model.proofs.Verdicts.{is-accepted}
+use Rattle.firmware.proofs.Answers.{on-refused}
 use borrow.Author.Needs.{needs}
 use Rattle.firmware.proofs.keep.Statement.{statement}
 use Rattle.firmware.proofs.keep.Tie as tie

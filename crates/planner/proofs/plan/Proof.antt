@@ -1,7 +1,7 @@
 -- `planner::plan` meets its contract, answer by answer.
 -- Assumes nothing.
 use mathlib.Core.Path.{sym, _∙_}
-use Rattle.planner.proofs.Plans.{never}
+use Rattle.model.proofs.Verdicts.{never-both}
 use borrow.Author.Needs.{needs}
 use Rattle.planner.proofs.plan.Statement.{statement}
 use Rattle.planner.proofs.plan.Tie as tie
@@ -24,7 +24,7 @@ returns c =
     let check = c .before .before .before .check .ensures in
     record {
       refused = λ x e. (c .no-plan .ensures .0 ∙ check ∙ e, c .no-plan .ensures .1);
-      planned = λ e. absurd (never (sym e ∙ sym check ∙ told));
+      planned = λ e. absurd (never-both (sym e ∙ sym check ∙ told));
     }
 
 all-lines-requires : tie.Need-all-lines-requires
@@ -36,7 +36,7 @@ plan-regions-requires c κs = search needs
 returns-2 : tie.Need-returns-2
 returns-2 c =
     let accepted = sym (c .before .before .before .before .before .before .before .before .check .ensures) ∙ c .before .before .before .before .before .before .enum-told .given .1 in
-    record { refused = λ x e. absurd (never (sym accepted ∙ e)); planned = λ e. c .plan-regions .ensures }
+    record { refused = λ x e. absurd (never-both (sym accepted ∙ e)); planned = λ e. c .plan-regions .ensures }
 
 pub plan-spec : {M : Type 1} → statement M
 plan-spec =

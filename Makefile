@@ -3,6 +3,7 @@
 # make release      the library, its header and how to link them, in one archive
 # make test-c       unpack the release and call it from C
 # make test-plan    prove the program plan and run it on a file that no list of points fits
+# make bench        time the calls against plain Rust
 # make clean        remove all that was built
 
 CC := gcc
@@ -13,7 +14,7 @@ NAME := preempt-$(VERSION)
 RELEASE := target/release/$(NAME)
 UNPACKED := target/test-c/$(NAME)
 
-.PHONY: lib example release test-c test-plan clean
+.PHONY: lib example release test-c test-plan bench clean
 .DELETE_ON_ERROR:
 
 lib: $(LIB)
@@ -51,6 +52,10 @@ test-c: $(RELEASE).tar.gz
 test-plan:
 	rt check plan
 	test "$$(target/bin/plan <crates/planner_cases/data/seven-29)" = 'refused 6 at 0'
+
+bench: $(LIB)
+	PLANNER_LIB_DIR=$(CURDIR)/target/staticlib CARGO_TARGET_DIR=$(CURDIR)/target/bench \
+		cargo run --release --offline --locked --quiet --manifest-path bench/Cargo.toml
 
 clean:
 	rm -rf target

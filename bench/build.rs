@@ -3,9 +3,6 @@ use std::env;
 fn main() {
     println!("cargo:rerun-if-changed=build.rs");
     println!("cargo:rerun-if-env-changed=PLANNER_LIB_DIR");
-    if env::var_os("CARGO_FEATURE_STUB").is_some() {
-        return;
-    }
     match env::var("PLANNER_LIB_DIR") {
         Ok(dir) => {
             println!("cargo:rustc-link-search=native={dir}");

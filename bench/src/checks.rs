@@ -1,14 +1,8 @@
-//! FNV-1a over the blocks of a file: one chain after the other, or several side by side.
+//! FNV-1a over the blocks of a file, four of them side by side.
 
 const BLOCK: usize = 512;
 const START: u32 = 2166136261;
 const PRIME: u32 = 16777619;
-
-#[derive(Clone, Copy, PartialEq)]
-pub enum Chains {
-    Simple,
-    SideBySide,
-}
 
 fn stored(block: &[u8]) -> u32 {
     u32::from_le_bytes([block[508], block[509], block[510], block[511]])
@@ -43,12 +37,7 @@ fn wrong_of<const C: usize>(blocks: &[u8]) -> Option<usize> {
 }
 
 /// Lowest block whose check is wrong.
-pub fn lowest_wrong(file: &[u8], chains: Chains) -> Option<usize> {
-    if chains == Chains::Simple {
-        return file
-            .chunks_exact(BLOCK)
-            .position(|block| stored(block) != check_of(block));
-    }
+pub fn lowest_wrong(file: &[u8]) -> Option<usize> {
     let mut done = 0;
     let mut rest = file;
     while !rest.is_empty() {

@@ -1,7 +1,7 @@
 //! Planning and pricing written for speed in plain Rust. How the lines of a stretch are counted
 //! is left to a method: `line_sets` or `by_line`.
 
-use crate::checks::{check_of, lowest_wrong, Chains};
+use crate::checks::{check_of, lowest_wrong};
 
 pub const BLOCK: usize = 512;
 pub const MOST_BASIC: usize = 64;
@@ -85,12 +85,12 @@ pub trait Method {
     fn lines(&self, a: usize, b: usize) -> u64;
 }
 
-fn open(file: &[u8], chains: Chains) -> Result<Task<'_>, u32> {
+fn open(file: &[u8]) -> Result<Task<'_>, u32> {
     let count = file.len() / BLOCK;
     if count == 0 || file.len() % BLOCK != 0 || count > MOST_BLOCKS {
         return Err(code(1, 0));
     }
-    if let Some(i) = lowest_wrong(file, chains) {
+    if let Some(i) = lowest_wrong(file) {
         return Err(code(2, i));
     }
     let (header, rest) = file.split_at(BLOCK);
@@ -251,11 +251,11 @@ fn read_points(block: &[u8]) -> Result<Points, u32> {
     Ok(points)
 }
 
-fn try_plan<M: Method>(file: &[u8], block: &mut [u8], chains: Chains) -> Result<(), u32> {
+fn try_plan<M: Method>(file: &[u8], block: &mut [u8]) -> Result<(), u32> {
     if block.len() != BLOCK {
         return Err(code(9, 0));
     }
-    let task = open(file, chains)?;
+    let task = open(file)?;
     let mut method = M::walk(&task);
     method.prepare();
     let (points, lines) = choose(&task, &method).ok_or(code(6, 0))?;
@@ -263,16 +263,11 @@ fn try_plan<M: Method>(file: &[u8], block: &mut [u8], chains: Chains) -> Result<
     Ok(())
 }
 
-fn try_price<M: Method>(
-    file: &[u8],
-    first: &[u8],
-    block: &mut [u8],
-    chains: Chains,
-) -> Result<(), u32> {
+fn try_price<M: Method>(file: &[u8], first: &[u8], block: &mut [u8]) -> Result<(), u32> {
     if block.len() != BLOCK {
         return Err(code(9, 0));
     }
-    let task = open(file, chains)?;
+    let task = open(file)?;
     let points = read_points(first)?;
     if let Some(i) = points.list[..points.count]
         .iter()
@@ -286,12 +281,10 @@ fn try_price<M: Method>(
     Ok(())
 }
 
-pub fn plan<M: Method>(file: &[u8], block: &mut [u8], chains: Chains) -> u32 {
-    try_plan::<M>(file, block, chains).err().unwrap_or(0)
+pub fn plan<M: Method>(file: &[u8], block: &mut [u8]) -> u32 {
+    try_plan::<M>(file, block).err().unwrap_or(0)
 }
 
-pub fn price<M: Method>(file: &[u8], points: &[u8], block: &mut [u8], chains: Chains) -> u32 {
-    try_price::<M>(file, points, block, chains)
-        .err()
-        .unwrap_or(0)
+pub fn price<M: Method>(file: &[u8], points: &[u8], block: &mut [u8]) -> u32 {
+    try_price::<M>(file, points, block).err().unwrap_or(0)
 }

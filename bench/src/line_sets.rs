@@ -24,7 +24,8 @@ fn take(rest: &mut Words, more: &Words) -> u64 {
 }
 
 impl Method for LineSets {
-    /// A line read again with the number it holds was useful at every edge since its last read.
+    /// A line read again with the number it holds was useful at every edge since its last read: its
+    /// bit is toggled where this begins and where it ends, and running exclusive ors make the sets.
     fn walk(task: &Task) -> LineSets {
         let mut at_risk = [[0; 8]; MOST_BASIC + 1];
         let mut accessed = [[0; 8]; MOST_BASIC + 1];
@@ -34,14 +35,12 @@ impl Method for LineSets {
             let k = i + 1;
             for m in numbers(block) {
                 let c = task.lines.of(m);
-                let (word, bit) = (c / 64, 1u64 << (c % 64));
-                accessed[k][word] |= bit;
+                let word = c / 64;
                 let before = last[c] as usize;
-                if before != 0 && held[c] == m {
-                    for useful in &mut at_risk[before..k] {
-                        useful[word] |= bit;
-                    }
-                }
+                let again = ((before != 0) & (held[c] == m)) as u64;
+                at_risk[before][word] ^= again << (c % 64);
+                at_risk[k][word] ^= again << (c % 64);
+                accessed[k][word] |= 1 << (c % 64);
                 held[c] = m;
                 last[c] = k as u8;
             }
@@ -53,10 +52,12 @@ impl Method for LineSets {
                 struck[c / 64] |= 1 << (c % 64);
             }
         }
-        for k in 0..=task.n {
+        let mut useful = [0; 8];
+        for (risk, reads) in at_risk.iter_mut().zip(&mut accessed) {
             for w in 0..8 {
-                accessed[k][w] &= at_risk[k][w];
-                at_risk[k][w] &= struck[w];
+                useful[w] ^= risk[w];
+                reads[w] &= useful[w];
+                risk[w] = useful[w] & struck[w];
             }
         }
         LineSets { at_risk, accessed }

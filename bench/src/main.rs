@@ -6,20 +6,14 @@ mod checks;
 mod fast;
 mod files;
 mod line_sets;
-#[cfg(feature = "stub")]
-mod stub;
 
 use by_line::ByLine;
-use checks::{lowest_wrong, Chains};
+use checks::lowest_wrong;
 use files::{drawn, seven, Shape};
 use line_sets::LineSets;
 use std::hint::black_box;
 use std::time::{Duration, Instant};
 
-#[cfg(feature = "stub")]
-use stub::{preempt_plan, preempt_price};
-
-#[cfg(not(feature = "stub"))]
 extern "C" {
     fn preempt_plan(file: *const u8, file_len: usize, block: *mut u8, block_len: usize) -> u32;
     fn preempt_price(
@@ -85,19 +79,18 @@ fn medians<const W: usize>(mut works: [&mut dyn FnMut(); W]) -> [f64; W] {
 }
 
 fn row(name: &str, file: &[u8]) {
-    const SIDE: Chains = Chains::SideBySide;
     let mut blocks = [[0u8; 512]; 3];
     let [ours, sets, lines] = &mut blocks;
     let plans = [
         planner_plan(file, ours),
-        fast::plan::<LineSets>(file, sets, SIDE),
-        fast::plan::<ByLine>(file, lines, SIDE),
+        fast::plan::<LineSets>(file, sets),
+        fast::plan::<ByLine>(file, lines),
     ];
     let points = *sets;
     let prices = [
         planner_price(file, &points, ours),
-        fast::price::<LineSets>(file, &points, sets, SIDE),
-        fast::price::<ByLine>(file, &points, lines, SIDE),
+        fast::price::<LineSets>(file, &points, sets),
+        fast::price::<ByLine>(file, &points, lines),
     ];
     let same = [plans, prices].iter().all(|c| c[0] == c[1] && c[0] == c[2])
         && ours == sets
@@ -113,23 +106,18 @@ fn row(name: &str, file: &[u8]) {
 
     let file = || black_box(file);
     let points = || black_box(&points);
-    let [simple, side] = medians([
-        &mut || {
-            black_box(lowest_wrong(file(), Chains::Simple));
-        },
-        &mut || {
-            black_box(lowest_wrong(file(), SIDE));
-        },
-    ]);
+    let [checks] = medians([&mut || {
+        black_box(lowest_wrong(file()));
+    }]);
     let plan = medians([
         &mut || {
             black_box(planner_plan(file(), ours));
         },
         &mut || {
-            black_box(fast::plan::<LineSets>(file(), sets, SIDE));
+            black_box(fast::plan::<LineSets>(file(), sets));
         },
         &mut || {
-            black_box(fast::plan::<ByLine>(file(), lines, SIDE));
+            black_box(fast::plan::<ByLine>(file(), lines));
         },
     ]);
     let price = medians([
@@ -137,10 +125,10 @@ fn row(name: &str, file: &[u8]) {
             black_box(planner_price(file(), points(), ours));
         },
         &mut || {
-            black_box(fast::price::<LineSets>(file(), points(), sets, SIDE));
+            black_box(fast::price::<LineSets>(file(), points(), sets));
         },
         &mut || {
-            black_box(fast::price::<ByLine>(file(), points(), lines, SIDE));
+            black_box(fast::price::<ByLine>(file(), points(), lines));
         },
     ]);
     for (call, [ours, sets, lines]) in [("plan", plan), ("price", price)] {
@@ -151,17 +139,16 @@ fn row(name: &str, file: &[u8]) {
         );
     }
     println!(
-        "  checks simple  {simple:9.2} us   side by side {side:8.2} us   share of planning: planner {:.0}% if simple, {:.0}% if side by side; plain {:.0}%, by line {:.0}%",
-        100.0 * simple / plan[0],
-        100.0 * side / plan[0],
-        100.0 * side / plan[1],
-        100.0 * side / plan[2]
+        "  checksums {checks:15.2} us   share of planning: planner {:.0}%, plain {:.0}%, by line {:.0}%",
+        100.0 * checks / plan[0],
+        100.0 * checks / plan[1],
+        100.0 * checks / plan[2]
     );
 }
 
 fn main() {
     println!("plain: line sets of eight words, carried unions; by line: one word per line");
-    println!("both check four blocks side by side; medians of {ROUNDS} rounds in turns");
+    println!("all three hash four blocks side by side; medians of {ROUNDS} rounds in turns");
     let largest = Shape {
         n: 64,
         m: 32,

@@ -3,6 +3,7 @@
 # make release      the library, its header and how to link them, in one archive
 # make test-c       unpack the release and call it from C
 # make test-plan    prove the program plan and run it on a file that no list of points fits
+# make opponent     compare the C calls with the independent implementation in tests/; SEED, COUNT and CASE may be given
 # make bench        time the calls against plain Rust
 # make clean        remove all that was built
 
@@ -14,7 +15,7 @@ NAME := preempt-$(VERSION)
 RELEASE := target/release/$(NAME)
 UNPACKED := target/test-c/$(NAME)
 
-.PHONY: lib example release test-c test-plan bench clean
+.PHONY: lib probe example release test-c test-plan opponent bench clean
 .DELETE_ON_ERROR:
 
 lib: $(LIB)
@@ -52,6 +53,13 @@ test-c: $(RELEASE).tar.gz
 test-plan:
 	rt check plan
 	test "$$(target/bin/plan <crates/planner_cases/data/seven-29)" = 'refused 6 at 0'
+
+probe:
+	rt staticlib probe
+
+opponent: $(LIB) probe
+	PLANNER_LIB_DIR=$(CURDIR)/target/staticlib CARGO_TARGET_DIR=$(CURDIR)/target/opponent \
+		cargo run --release --offline --locked --quiet --manifest-path tests/Cargo.toml -- $(SEED) $(COUNT) $(CASE)
 
 bench: $(LIB)
 	PLANNER_LIB_DIR=$(CURDIR)/target/staticlib CARGO_TARGET_DIR=$(CURDIR)/target/bench \

@@ -136,6 +136,16 @@ unfolding countBelow
 count-le zero s = zero-le
 count-le (suc n) s = omega (arith, count-le n s, bit-le (s n))
 
+bit-within : (a b : Bool) → (a ≡ true → b ≡ true) → bit a ≤ bit b
+bit-within true b h = rw (h refl) (le-refl 1)
+bit-within false b h = zero-le
+
+-- a set within another has at most its count
+pub count-within : (n : ℕ) {s t : Lines} → ((c : ℕ) → s c ≡ true → t c ≡ true) → countBelow n s ≤ countBelow n t
+unfolding countBelow
+count-within zero h = zero-le
+count-within (suc n) {s} {t} h = omega (arith, count-within n h, bit-within (s n) (t n) (h n))
+
 -- ---- numbers from digits
 
 pub digits-agree : (n : ℕ) {s t : Lines} → ((c : ℕ) → c < n → s c ≡ t c) → digitsBelow n s ≡ digitsBelow n t

@@ -1,22 +1,26 @@
 -- Laws of regions and what lists of them cost.
 -- Assumes nothing.
-use Prim.Native.Nat.{ℕ, _+_, _*_, _≤_}
+use Prim.Native.Nat.{ℕ, zero, suc, _+_, _-_, _*_, _≤_}
 use mathlib.Core.Path.{_≡_, refl, sym, ap, _∙_}
-use mathlib.Core.Bool.{true}
+use mathlib.Core.Bool.{true, false, _&&_}
 use mathlib.Core.List.{List, [], _∷_}
-use native.Mathlib.Nat.{mul-zero, mul-add}
+use native.Mathlib.Nat.{le-refl, lt-of-lt-of-le, add-zero, add-suc, mul-zero, mul-add, mul-le-mul}
 use native.Mathlib.Omega.{arith}
+use borrow.Author.Tests.{leb-false, lt-leb}
 use lib.ListN.{length}
+use Rattle.model.specs.Sets.{Lines}
 use Rattle.model.specs.Task.{Task, blockCount}
 use Rattle.model.specs.Lists.{Region, steps, regions, total, rightPoint, wellFormed, wrongPoint}
-use Rattle.model.specs.Regions.{loaded, regionLines, regionFits, regionCost, lines, cost, fits, regionAbove}
+use Rattle.model.specs.Lines.{useful, accessedUseful, evicted}
+use Rattle.model.specs.Regions.{unionAfter, timeAfter, loaded, regionLines, regionLength, regionFits, regionCost}
+use Rattle.model.specs.Regions.{lines, cost, fits, regionAbove}
 use Rattle.model.specs.Answers.{refusedAt, pricing}
 use Rattle.model.specs.declared.Place.{Place}
 use Rattle.model.specs.declared.Place.the-variants.{Nowhere, At}
 use Rattle.model.specs.declared.Refusal.the-variants.{Argument, AboveLimit}
 use Rattle.model.specs.declared.Verdict.the-variants.{Accepted}
-use Rattle.model.proofs.Digits.{count-le}
-use Rattle.model.proofs.Lists.{lowest-none, none-lowest}
+use Rattle.model.proofs.Digits.{count-le, count-within}
+use Rattle.model.proofs.Lists.{and-split, lowest-none, none-lowest}
 
 scaled : (t : Task) (rs : List Region) → total (regionCost t) rs ≡ t .reload * total (regionLines t) rs
 unfolding total regionCost
@@ -54,3 +58,36 @@ accepted-well-formed t ps e = none-lowest (rightPoint (blockCount t)) 0 (steps 0
     go : (p : Place) → refusedAt p Argument (refusedAt (regionAbove t ps) AboveLimit Accepted) ≡ Accepted → p ≡ Nowhere
     go Nowhere q = refl
     go (At i) q = let z : _≡_ {A = ℕ} 0 1 = cc in absurd (omega arith)
+
+-- a region grows with its end: its times, its loaded lines, and so its length
+
+time-grows : (t : Task) (a n k : ℕ) → timeAfter t a n ≤ timeAfter t a (n + k)
+unfolding timeAfter
+time-grows t a n zero = rw add-zero (le-refl _)
+time-grows t a n (suc k) = rw add-suc (omega (arith, time-grows t a n k))
+
+union-grows : (s : ℕ → Lines) (a n k c : ℕ) → unionAfter s a n c ≡ true → unionAfter s a (n + k) c ≡ true
+unfolding unionAfter
+union-grows s a n zero c h = rw add-zero h
+union-grows s a n (suc k) c h = rw (add-suc, union-grows s a n k c h)
+
+module _ (t : Task) (a b c : ℕ) (h : b ≤ c) where
+  more : c - a ≡ b - a + (c - a - (b - a))
+  more = omega arith
+
+  loaded-grows : (d : ℕ) → loaded t a b d ≡ true → loaded t a c d ≡ true
+  unfolding loaded
+  loaded-grows d e =
+      let both = and-split (useful t a d && evicted t d) (unionAfter (accessedUseful t) a (b - a) d) e in
+      rw (both .0, more, union-grows (accessedUseful t) a (b - a) (c - a - (b - a)) d (both .1))
+
+  length-grows : regionLength t a b ≤ regionLength t a c
+  unfolding regionLength regionLines
+  length-grows =
+      let time = rw (← more) at (time-grows t a (b - a) (c - a - (b - a))) in
+      omega (arith, time, mul-le-mul (le-refl (t .reload)) (count-within 512 loaded-grows))
+
+  -- where a region does not fit, no longer one from the same edge does
+  pub longer-above : regionFits t a b ≡ false → regionFits t a c ≡ false
+  unfolding regionFits
+  longer-above e = lt-leb _ _ (lt-of-lt-of-le (leb-false _ _ e) length-grows)

@@ -318,7 +318,7 @@ fn plan_regions(
     requires { ⌜ Ready (now file) (now useful) (now accessed) evicted ⌝ }
     ensures { λ r. ⌜ Planned (taskOf (now (file .entry))) (r .verdict) (r .plan) ⌝ }
 {
-    let mut table = [0u64; 4096];
+    let mut table = [placement::NONE; 4096];
     regions::fill_table(file, useful, accessed, evicted, &mut table);
     let n = taskfile::block_count(file);
     let placed = placement::place(&table, n);

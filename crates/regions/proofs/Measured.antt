@@ -1,16 +1,14 @@
--- What a region's loaded lines and length say of its lines, cost, table entry and fit.
+-- What a region's loaded lines and length say of its lines, cost and fit.
 -- Assumes nothing.
 use Prim.Native.Nat.{ℕ, _*_, _≤_, _<_}
 use mathlib.Core.Path.{_≡_, ap}
 use mathlib.Core.Bool.{true, false}
 use borrow.Author.Tests.{le-leb, lt-leb}
-use lib.Dec.{leb}
 use Rattle.model.specs.Sets.{size}
 use Rattle.model.specs.Task.{Task}
 use Rattle.model.specs.Regions.{regionLines, regionFits, regionCost}
 use Rattle.model.proofs.Sets.{size-agree}
 use Rattle.lineset.specs.Members.{members}
-use Rattle.placement.specs.Table.{entry}
 use Rattle.regions.specs.Answers.{Measures}
 use Rattle.regions.specs.declared.Region.{Region}
 
@@ -22,10 +20,6 @@ module _ {t : Task} {a b : ℕ} {r : Region} (m : Measures t a b r) where
   pub measured-cost : t .reload * size (members (r .loaded)) ≡ regionCost t a b
   unfolding regionCost
   measured-cost = ap (λ (n : ℕ). t .reload * n) measured-lines
-
-  pub measured-entry : entry (leb (r .length) (t .limit)) (t .reload * size (members (r .loaded))) ≡ entry (regionFits t a b) (regionCost t a b)
-  unfolding regionFits
-  measured-entry = rw (m .length, measured-cost)
 
   module _ {limit : ℕ} (e : limit ≡ t .limit) where
     pub measured-within : r .length ≤ limit → regionFits t a b ≡ true

@@ -3,18 +3,17 @@
 ghost use mathlib.Core.Bool.{false};
 ghost use mathlib.Core.Path.{_≡_};
 ghost use Prim.Native.Nat.{ℕ, _+_, _*_, _^_, _<_, _≤_};
-ghost use lib.Dec.{leb};
-ghost use lib.ListN.{length, getD};
+ghost use lib.ListN.{length, getD, replicate};
 ghost use Rattle.model.specs.Sets.{size};
 ghost use Rattle.model.specs.Task.{blockCount};
 ghost use Rattle.model.specs.Lists.{wrongPoint};
 ghost use Rattle.model.specs.Regions.{regionFits, regionCost};
 ghost use Rattle.lineset.specs.Members.{members};
-ghost use Rattle.placement.specs.Table.{entry, Holds};
+ghost use Rattle.placement.specs.Table.{none, Holds};
 ghost use Rattle.taskfile.specs.File.{verdict, taskOf};
 ghost use Rattle.reuse.specs.Edges.{linesAt};
 ghost use Rattle.regions.specs.Ready.{Useful, Accessed, Evicted, Ready};
-ghost use Rattle.regions.specs.Answers.{Spans, Measures, Row, Prices};
+ghost use Rattle.regions.specs.Answers.{Spans, Measures, NoneFrom, Row, Prices};
 use lineset::LineSet;
 use model::Place;
 use model::Refusal;
@@ -74,7 +73,7 @@ pub fn region_between(
     region_of(file, useful, evicted, run)
 }
 
-// The entries of all regions, for a placement.
+// The entries of all regions, for a placement; the table is lent with NONE everywhere.
 pub fn fill_table(
     file: &[u8],
     useful: &[u64; 520],
@@ -82,7 +81,7 @@ pub fn fill_table(
     evicted: LineSet,
     table: &mut [u64; 4096],
 )
-    requires { ⌜ Ready (now file) (now useful) (now accessed) evicted × (length (now table) ≡ 4096) ⌝ }
+    requires { ⌜ Ready (now file) (now useful) (now accessed) evicted × (now table ≡ replicate 4096 none) ⌝ }
     ensures { λ _. ⌜ length (now (table .exit)) ≡ 4096 ⌝ }
     ensures { λ _. ⌜ Holds (now (table .exit)) (blockCount (taskOf (now (file .entry)))) (regionFits (taskOf (now (file .entry)))) (regionCost (taskOf (now (file .entry)))) ⌝ }
 {
@@ -94,7 +93,8 @@ pub fn fill_table(
     }
 }
 
-// The entries of the regions from edge a; the table is else as it was.
+// The entries of the regions from edge a; the table is else as it was. The first region above the limit ends the row: all longer ones
+// are above it too, and NONE stands for them.
 fn fill_row(
     file: &[u8],
     useful: &[u64; 520],
@@ -103,30 +103,29 @@ fn fill_row(
     a: usize,
     table: &mut [u64; 4096],
 )
-    requires { ⌜ Ready (now file) (now useful) (now accessed) evicted × (a < blockCount (taskOf (now file))) × (length (now table) ≡ 4096) ⌝ }
+    requires { ⌜ Ready (now file) (now useful) (now accessed) evicted × (a < blockCount (taskOf (now file))) × (length (now table) ≡ 4096) × NoneFrom a (now table) ⌝ }
     ensures { λ _. ⌜ Row (taskOf (now (file .entry))) a (blockCount (taskOf (now (file .entry)))) (now (table .entry)) (now (table .exit)) ⌝ }
 {
     let n = taskfile::block_count(file);
+    let limit = taskfile::limit(file) as u64;
     let mut run = start(a);
     while run.to < n {
         let at = a * 64 + run.to;
         run = longer(file, accessed, run);
-        table[at] = table_entry(file, region_of(file, useful, evicted, run));
+        let region = region_of(file, useful, evicted, run);
+        if region.length > limit {
+            return;
+        }
+        table[at] = cost(file, region);
     }
 }
 
-// What stands in the table for a region: its cost, or NONE where its length is above the limit.
-fn table_entry(file: &[u8], region: Region) -> u64
+// What a region costs.
+fn cost(file: &[u8], region: Region) -> u64
     requires { ⌜ verdict (now file) ≡ Verdict.Accepted ⌝ }
-    ensures { λ r. ⌜ r ≡ entry (leb (region .length) (taskOf (now (file .entry)) .limit)) (taskOf (now (file .entry)) .reload * size (members (region .loaded))) ⌝ }
-    ensures { λ _. ⌜ taskOf (now (file .entry)) .reload * size (members (region .loaded)) < 2 ^ 56 ⌝ }
+    ensures { λ r. ⌜ (r ≡ taskOf (now (file .entry)) .reload * size (members (region .loaded))) × (r < 2 ^ 56) ⌝ }
 {
-    let cost = taskfile::reload(file) as u64 * region.loaded.size() as u64;
-    if region.length <= taskfile::limit(file) as u64 {
-        cost
-    } else {
-        placement::NONE
-    }
+    taskfile::reload(file) as u64 * region.loaded.size() as u64
 }
 
 // No basic blocks, at edge a.

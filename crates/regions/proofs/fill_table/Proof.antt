@@ -1,4 +1,4 @@
--- `regions::fill_table` meets its contract. The loop's invariant: the rows of the edges below a are filled, and a row leaves the others as they are.
+-- `regions::fill_table` meets its contract. The loop's invariant: the rows of the edges below a are filled, and none stands in the others.
 -- Assumes nothing.
 use Prim.Native.Nat.{_-_, _≤_}
 use native.Mathlib.Omega.{arith}
@@ -23,7 +23,8 @@ loop-holds c = (omega arith, filled-none (c .before .before .pre .1))
 fill-row-requires : tie.Need-fill-row-requires Inv-loop μ-loop
 fill-row-requires c κs =
     let at = c .before .before in
-    (at .before .before .before .pre .0, omega arith, at .loop .inv .1 .long)
+    let filled = at .loop .inv .1 in
+    (at .before .before .before .pre .0, omega arith, filled .long, filled .rest (at .loop .a) (omega arith) (omega arith))
 
 add-a : tie.Need-add-a Inv-loop μ-loop
 add-a c = omega arith

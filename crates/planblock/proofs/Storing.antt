@@ -45,19 +45,18 @@ pub points-none : (points bs : List ℕ) → 20 ≤ length bs → Begins 20 bs (
 unfolding les
 points-none points bs h = rw append-nil (refl, length-take-le 20 bs h)
 
-les-snoc : (w n : ℕ) (ns : List ℕ) → les w (ns ++ (n ∷ [])) ≡ les w ns ++ le w n
+pub les-snoc : (w n : ℕ) (ns : List ℕ) → les w (ns ++ (n ∷ [])) ≡ les w ns ++ le w n
 unfolding les
 les-snoc w n [] = append-nil (le w n)
 les-snoc w n (m ∷ ns) = rw (les-snoc w n ns, append-assoc)
 
--- one point more is stored
-pub points-more : (points bs new xs : List ℕ) (i : ℕ) → i < length points → Begins (20 + 2 * i) bs (xs ++ les 2 (take i points))
-    → new ≡ take (20 + 2 * i) bs ++ le 2 (getD points i 0) ++ drop (20 + 2 * i + 2) bs → Begins (20 + 2 * suc i) new (xs ++ les 2 (take (suc i) points))
-points-more points bs new xs i h b p =
-    let end : 20 + 2 * i + 2 ≡ 20 + 2 * suc i = omega arith in
-    let last : xs ++ les 2 (take i points) ++ le 2 (getD points i 0) ≡ xs ++ les 2 (take (suc i) points) =
-    rw (take-suc points i 0 h, les-snoc, append-assoc) in
-    rw (← end, ← last) (begins-le (20 + 2 * i) 2 (getD points i 0) bs new (xs ++ les 2 (take i points)) b p)
+-- one number more of a list is stored
+pub numbers-more : (w at : ℕ) (ns bs new xs : List ℕ) (i : ℕ) → i < length ns → Begins at bs (xs ++ les w (take i ns))
+    → new ≡ take at bs ++ le w (getD ns i 0) ++ drop (at + w) bs → Begins (at + w) new (xs ++ les w (take (suc i) ns))
+numbers-more w at ns bs new xs i h b p =
+    let last : xs ++ les w (take i ns) ++ le w (getD ns i 0) ≡ xs ++ les w (take (suc i) ns) =
+    rw (take-suc ns i 0 h, les-snoc, append-assoc) in
+    rw (← last) (begins-le at w (getD ns i 0) bs new (xs ++ les w (take i ns)) b p)
 
 pub length-head : (p : Plan) → length (planHead p) ≡ 20
 unfolding planHead

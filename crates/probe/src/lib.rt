@@ -1,56 +1,108 @@
 // For tests: the useful lines of an edge, and the loaded lines and the length of a region, through the planner's calls.
 // A set is eight words of eight bytes, their lowest byte first.
-ghost use Prim.Native.Nat.{_≤_};
-ghost use lib.ListN.{length};
+ghost use mathlib.Core.List.{[], _∷_, _++_};
+ghost use mathlib.Core.Path.{_≡_};
+ghost use Prim.Native.Nat.{_+_, _*_, _≤_};
+ghost use lib.ListN.{length, take};
+ghost use Rattle.model.specs.Answers.{number, place, returned, onAccepted};
+ghost use Rattle.block.specs.Bytes.{les};
+ghost use Rattle.probe.specs.Calls.{usefulReturned, usefulLeft, regionReturned, regionLeft};
 use lineset::LineSet;
 use model::Refusal;
 use model::Verdict;
+use planner::RegionLines;
+use planner::UsefulLines;
 
 // The useful lines at edge k, in 64 bytes.
 #[no_mangle]
-pub extern "C" fn probe_useful(file: &[u8], k: usize, out: &mut [u8]) -> u32 {
+pub extern "C" fn probe_useful(file: &[u8], k: usize, out: &mut [u8]) -> u32
+    ensures { λ r. ⌜ r ≡ usefulReturned (now (file .entry)) k (now (out .entry)) ⌝ }
+    ensures { λ _. ⌜ now (out .exit) ≡ usefulLeft (now (file .entry)) k (now (out .entry)) ⌝ }
+{
     if out.len() != 64 {
-        return code(Refusal::Output);
+        return refused(Refusal::Output);
     }
-    let answer = planner::useful(file, k);
-    let verdict = answer.verdict;
-    match verdict {
-        Verdict::Accepted => {
-            put_lines(answer.lines, out);
-            0
-        }
-        Verdict::Refused(refusal) => code(refusal),
-    }
+    let found = planner::useful(file, k);
+    let verdict = found.verdict;
+    keep_useful(found, out);
+    answer(verdict)
 }
 
 // The loaded lines of a region and its length, in 72 bytes.
 #[no_mangle]
-pub extern "C" fn probe_region(file: &[u8], a: usize, b: usize, out: &mut [u8]) -> u32 {
+pub extern "C" fn probe_region(file: &[u8], a: usize, b: usize, out: &mut [u8]) -> u32
+    ensures { λ r. ⌜ r ≡ regionReturned (now (file .entry)) a b (now (out .entry)) ⌝ }
+    ensures { λ _. ⌜ now (out .exit) ≡ regionLeft (now (file .entry)) a b (now (out .entry)) ⌝ }
+{
     if out.len() != 72 {
-        return code(Refusal::Output);
+        return refused(Refusal::Output);
     }
-    let answer = planner::region(file, a, b);
-    let verdict = answer.verdict;
+    let found = planner::region(file, a, b);
+    let verdict = found.verdict;
+    keep_region(found, out);
+    answer(verdict)
+}
+
+// Leaves accepted lines in the bytes.
+fn keep_useful(useful: UsefulLines, out: &mut [u8])
+    requires { ⌜ length (now out) ≡ 64 ⌝ }
+    ensures { λ _. ⌜ now (out .exit) ≡ onAccepted (useful .verdict) (les 8 (useful .lines .words)) (now (out .entry)) ⌝ }
+{
+    let verdict = useful.verdict;
     match verdict {
-        Verdict::Accepted => {
-            block::put_u64(out, 64, answer.length);
-            put_lines(answer.loaded, out);
-            0
-        }
-        Verdict::Refused(refusal) => code(refusal),
+        Verdict::Accepted => put_lines(useful.lines, out),
+        Verdict::Refused(_) => {}
     }
 }
 
+// Leaves an accepted region in the bytes.
+fn keep_region(region: RegionLines, out: &mut [u8])
+    requires { ⌜ length (now out) ≡ 72 ⌝ }
+    ensures { λ _. ⌜ now (out .exit) ≡ onAccepted (region .verdict) (les 8 (region .loaded .words ++ (region .length ∷ []))) (now (out .entry)) ⌝ }
+{
+    let verdict = region.verdict;
+    match verdict {
+        Verdict::Accepted => put_region(region, out),
+        Verdict::Refused(_) => {}
+    }
+}
+
+// Stores a region's loaded lines and then its length.
+fn put_region(region: RegionLines, out: &mut [u8])
+    requires { ⌜ length (now out) ≡ 72 ⌝ }
+    ensures { λ _. ⌜ now (out .exit) ≡ les 8 (region .loaded .words ++ (region .length ∷ [])) ⌝ }
+{
+    put_lines(region.loaded, out);
+    block::put_u64(out, 64, region.length);
+}
+
+// Stores the words of a set in the first 64 bytes.
 fn put_lines(lines: LineSet, out: &mut [u8])
     requires { ⌜ 64 ≤ length (now out) ⌝ }
+    ensures { λ _. ⌜ take 64 (now (out .exit)) ≡ les 8 (lines .words) ⌝ }
 {
     let mut w = 0;
     while w < 8 {
-        block::put_u64(out, w * 8, lines.words[w]);
+        block::put_u64(out, 8 * w, lines.words[w]);
         w += 1;
     }
 }
 
-fn code(refusal: Refusal) -> u32 {
-    planner::refusal_number(refusal) % 16 * 65536 + (planner::refusal_place(refusal) % 65536) as u32
+// What a call returns: 0, or the refusal.
+fn answer(verdict: Verdict) -> u32
+    requires { ⌜ ((x : Refusal) → verdict ≡ Verdict.Refused x → place x ≤ 97) ⌝ }
+    ensures { λ r. ⌜ r ≡ returned verdict ⌝ }
+{
+    match verdict {
+        Verdict::Accepted => 0,
+        Verdict::Refused(refusal) => refused(refusal),
+    }
+}
+
+// What a refusal returns.
+fn refused(refusal: Refusal) -> u32
+    requires { ⌜ place refusal ≤ 97 ⌝ }
+    ensures { λ r. ⌜ r ≡ number refusal * 65536 + place refusal ⌝ }
+{
+    planner::refusal_number(refusal) * 65536 + planner::refusal_place(refusal) as u32
 }

@@ -8,7 +8,7 @@ use native.Mathlib.Numerals.{add-one}
 use lib.ListN.{length, take}
 use borrow.Author.Needs.{needs}
 use Rattle.block.specs.Bytes.{les}
-use Rattle.planblock.proofs.Storing.{Begins, points-none, points-more}
+use Rattle.planblock.proofs.Storing.{Begins, points-none, numbers-more}
 use Rattle.planblock.proofs.put_points.Statement.{statement}
 use Rattle.planblock.proofs.put_points.Tie as tie
 
@@ -46,11 +46,12 @@ loop-less c = search needs
 loop-again : tie.Need-loop-again Inv-loop μ-loop
 loop-again c =
     let start = c .before .before .before .before .before .before .before in
-    let loop = c .before .before .before .before .before .loop in (
+    let loop = c .before .before .before .before .before .loop in
+    let next : 20 + 2 * loop .i + 2 ≡ 20 + 2 * (loop .i + 1) = omega arith in (
       search needs,
       search needs,
       search needs,
-      rw add-one (points-more (start .args .t1) (loop .out) (c .before .before .put-u16 .last .0) (take 20 (start .args .out .now)) (loop .i) (omega arith) (loop .inv .3) (c .before .before .put-u16 .ensures)),
+      rw (← next, add-one) (numbers-more 2 (20 + 2 * loop .i) (start .args .t1) (loop .out) (c .before .before .put-u16 .last .0) (take 20 (start .args .out .now)) (loop .i) (omega arith) (loop .inv .3) (c .before .before .put-u16 .ensures)),
     )
 
 same-length : tie.Need-same-length Inv-loop μ-loop

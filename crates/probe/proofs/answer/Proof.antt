@@ -1,0 +1,23 @@
+-- `probe::answer` meets its contract, by the verdict's two cases.
+-- Assumes nothing.
+use borrow.Author.Needs.{needs}
+use Rattle.probe.proofs.answer.Statement.{statement}
+use Rattle.probe.proofs.answer.Tie as tie
+
+enum-told : tie.Need-enum-told
+enum-told c = search needs
+
+enum-known-verdict : tie.Need-enum-known-verdict
+enum-known-verdict c = search needs
+
+refused-requires : tie.Need-refused-requires
+refused-requires c κs = c .before .before .before .pre _ (c .before .verdict .given .1)
+
+returns : tie.Need-returns
+returns c = search needs
+
+returns-2 : tie.Need-returns-2
+returns-2 c = rw (c .before .before .verdict .given .1) (c .refused .ensures)
+
+pub answer-spec : {M : Type 1} → statement M
+answer-spec = tie.close (tie.spec enum-told enum-known-verdict refused-requires returns returns-2)

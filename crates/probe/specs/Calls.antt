@@ -1,0 +1,27 @@
+-- What the two C calls return, and what they leave in the lent bytes: 0, or the refusal's number times 65536 plus its place; 9 first; a
+-- refusal leaves the bytes as they were. Assumes nothing.
+use Prim.Native.Nat.{ℕ}
+use mathlib.Core.Bool.{cond}
+use mathlib.Core.List.{List, [], _∷_, _++_}
+use lib.Dec.{eqb}
+use lib.ListN.{length}
+use Rattle.model.specs.Answers.{returned, onAccepted}
+use Rattle.model.specs.declared.Refusal.the-variants.{Output}
+use Rattle.model.specs.declared.Verdict.the-variants.{Refused}
+use Rattle.block.specs.Bytes.{les}
+use Rattle.planner.specs.Calls.{usefulVerdict, usefulWords, regionVerdict, loadedWords, lengthOf}
+
+-- the useful lines at edge k, in 64 bytes: the eight words of the set
+unfoldable pub usefulReturned : List ℕ → ℕ → List ℕ → ℕ
+usefulReturned file k out = cond (eqb (length out) 64) (returned (usefulVerdict file k)) (returned (Refused Output))
+
+unfoldable pub usefulLeft : List ℕ → ℕ → List ℕ → List ℕ
+usefulLeft file k out = cond (eqb (length out) 64) (onAccepted (usefulVerdict file k) (les 8 (usefulWords file k)) out) out
+
+-- the loaded lines of a region and its length, in 72 bytes
+unfoldable pub regionReturned : List ℕ → ℕ → ℕ → List ℕ → ℕ
+regionReturned file a b out = cond (eqb (length out) 72) (returned (regionVerdict file a b)) (returned (Refused Output))
+
+unfoldable pub regionLeft : List ℕ → ℕ → ℕ → List ℕ → List ℕ
+regionLeft file a b out =
+    cond (eqb (length out) 72) (onAccepted (regionVerdict file a b) (les 8 (loadedWords file a b ++ (lengthOf file a b ∷ []))) out) out

@@ -34,11 +34,11 @@ module _ (sets : List ℕ) (k w v : ℕ) (h : w < 8) where
       (ap (take 8) (drop-set-add (e * 8) sets ((k - e) * 8 + w) v) ∙
       take-set-le 8 (drop (e * 8) sets) ((k - e) * 8 + w) v (omega arith)))
 
-word-at : (sets : List ℕ) (k w : ℕ) → w < 8 → getD (wordsAt sets k) w 0 ≡ getD sets (k * 8 + w) 0
+pub word-at : (sets : List ℕ) (k w : ℕ) → w < 8 → getD (wordsAt sets k) w 0 ≡ getD sets (k * 8 + w) 0
 unfolding wordsAt
 word-at sets k w h = getD-take 8 (drop (k * 8) sets) w 0 h ∙ getD-drop (k * 8) sets w 0
 
-eight-at : (sets : List ℕ) (k : ℕ) → length sets ≡ 520 → k < 65 → length (wordsAt sets k) ≡ 8
+pub eight-at : (sets : List ℕ) (k : ℕ) → length sets ≡ 520 → k < 65 → length (wordsAt sets k) ≡ 8
 unfolding wordsAt
 eight-at sets k len h = omega (arith, length-take 8 (drop (k * 8) sets), length-drop (k * 8) sets)
 

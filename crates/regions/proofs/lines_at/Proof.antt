@@ -5,10 +5,11 @@ use mathlib.Core.Path.{_≡_, refl, sym, ap, _∙_}
 use mathlib.Core.List.{List}
 use native.Mathlib.Omega.{arith}
 use borrow.Author.Count.{below-none, below-more}
-use lib.ListN.{length, getD, set, take, drop, length-set, length-take, length-drop}
-use lib.Seq.{ext-getD, getD-set-same, getD-set-other, getD-take, getD-drop}
+use lib.ListN.{length, getD, set, length-set}
+use lib.Seq.{ext-getD, getD-set-same, getD-set-other}
 use Rattle.model.specs.Sets.{inWords}
 use Rattle.reuse.specs.Edges.{wordsAt}
+use Rattle.reuse.proofs.Edges.{word-at, eight-at}
 use Rattle.regions.proofs.lines_at.Statement.{statement}
 use Rattle.regions.proofs.lines_at.Tie as tie
 
@@ -31,13 +32,9 @@ module _ (sets : List ℕ) (k : ℕ) where
       }
 
   all : (w : ℕ) (words : List ℕ) → 8 ≤ w → length sets ≡ 520 → k < 65 → Copied w words → words ≡ wordsAt sets k
-  unfolding wordsAt
   all w words h long l i =
-      let eight : length (take 8 (drop (k * 8) sets)) ≡ 8 = omega (arith, length-take 8 (drop (k * 8) sets), length-drop (k * 8) sets) in
-      ext-getD 0 words (take 8 (drop (k * 8) sets)) (i .eight ∙ sym eight)
-      (λ j m.
-      let lt : j < 8 = omega (arith, i .eight) in
-      i .copied j (omega arith) ∙ sym (getD-take 8 (drop (k * 8) sets) j 0 lt ∙ getD-drop (k * 8) sets j 0))
+      ext-getD 0 words (wordsAt sets k) (i .eight ∙ sym (eight-at sets k long l))
+      (λ j m. i .copied j (omega (arith, i .eight)) ∙ sym (word-at sets k j (omega (arith, i .eight))))
 
 abbrev Inv-loop : tie.InvT-loop
 Inv-loop sets k words₀ w₀ words w = Copied sets k w words

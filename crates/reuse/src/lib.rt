@@ -1,7 +1,7 @@
 // For an accepted file: the lines that are useful at each edge, those of them that each block reads, and those that the preempters evict.
 ghost use mathlib.Core.Bool.{false, _&&_, _||_, xor};
 ghost use mathlib.Core.Path.{_≡_};
-ghost use Prim.Native.Nat.{ℕ, _+_, _%_, _<_, _≤_};
+ghost use Prim.Native.Nat.{ℕ, _+_, _/_, _%_, _^_, _<_, _≤_};
 ghost use lib.Dec.{eqb, leb, ltb};
 ghost use lib.ListN.{length};
 ghost use Rattle.model.specs.Task.{blockCount};
@@ -15,12 +15,27 @@ use lineset::LineSet;
 use model::Line;
 use model::Verdict;
 
-// The line of a memory block, where there are count lines.
-pub fn line_of(number: u32, count: u32) -> usize
-    requires { ⌜ (1 ≤ count) × (count ≤ 512) ⌝ }
+// 2^32 divided by the number of lines.
+fn inverse_of(count: u32) -> u64
+    requires { ⌜ 1 ≤ count ⌝ }
+    ensures { λ r. ⌜ r ≡ 2 ^ 32 / count ⌝ }
+{
+    4294967296 / count as u64
+}
+
+// The line of a memory block, where there are count lines: its remainder by count, from a quotient that is right or one too small.
+fn line_of(number: u32, count: u32, inverse: u64) -> usize
+    requires { ⌜ (1 ≤ count) × (count ≤ 512) × (inverse ≡ 2 ^ 32 / count) ⌝ }
     ensures { λ r. ⌜ (r ≡ number % count) × (r < 512) ⌝ }
 {
-    (number % count) as usize
+    let lines = count as u64;
+    let quotient = (number as u64 * inverse) >> 32;
+    let rest = number as u64 - quotient * lines;
+    if rest < lines {
+        rest as usize
+    } else {
+        (rest - lines) as usize
+    }
 }
 
 // H: the lines that the preempters evict.
@@ -47,10 +62,11 @@ fn add_reads(words: &mut [u64; 8], file: &[u8], k: usize)
     ensures { λ _. ⌜ ((d : ℕ) → inWords (now (words .exit)) d ≡ (inWords (now (words .entry)) d || anyRead (onLine (taskOf (now (file .entry))) d) (entryReads (now (file .entry)) k))) ⌝ }
 {
     let count = taskfile::line_count(file);
+    let inverse = inverse_of(count);
     let reads = taskfile::read_count(file, k);
     let mut j = 0;
     while j < reads {
-        let c = line_of(taskfile::read(file, k, j), count);
+        let c = line_of(taskfile::read(file, k, j), count, inverse);
         let w = c >> 6;
         words[w] = words[w] | (1 << (c & 63));
         j += 1;
@@ -89,6 +105,7 @@ fn walk_reads(file: &[u8], useful: &mut [u64; 520], accessed: &mut [u64; 520])
 {
     let blocks = taskfile::block_count(file);
     let count = taskfile::line_count(file);
+    let inverse = inverse_of(count);
     let mut held = [Line::Empty; 512];
     let mut since = [0usize; 512];
     let mut i = 0;
@@ -98,7 +115,7 @@ fn walk_reads(file: &[u8], useful: &mut [u64; 520], accessed: &mut [u64; 520])
         let mut j = 0;
         while j < reads {
             let number = taskfile::read(file, k, j);
-            let c = line_of(number, count);
+            let c = line_of(number, count, inverse);
             let line = held[c];
             add_reread(useful, line, number, c, since[c], k);
             add_line(accessed, c, k);

@@ -19,15 +19,18 @@ use Rattle.reuse.proofs.add_reads.Statement.{statement}
 use Rattle.reuse.proofs.add_reads.Tie as tie
 
 abbrev Inv-loop : tie.InvT-loop
-Inv-loop words₀ file k count reads j₀ words j =
+Inv-loop words₀ file k count inverse reads j₀ words j =
     (length words ≡ 8) × (j ≤ reads) ×
     ((d : ℕ) → inWords words d ≡ (inWords words₀ d || anyRead (onLine (taskOf file) d) (take j (entryReads file k))))
 
 abbrev μ-loop : tie.MeasureT-loop
-μ-loop words₀ file k count reads j₀ words j = reads - j
+μ-loop words₀ file k count inverse reads j₀ words j = reads - j
 
 line-count-requires : tie.Need-line-count-requires Inv-loop μ-loop
 line-count-requires c κs = search needs
+
+inverse-of-requires : tie.Need-inverse-of-requires Inv-loop μ-loop
+inverse-of-requires c κs = search needs
 
 read-count-requires : tie.Need-read-count-requires Inv-loop μ-loop
 read-count-requires c κs = search needs
@@ -35,7 +38,7 @@ read-count-requires c κs = search needs
 loop-holds : tie.Need-loop-holds Inv-loop μ-loop
 unfolding anyRead
 loop-holds c =
-    (c .before .before .before .pre .0, search needs, λ d. sym (or-false _))
+    (c .before .before .before .before .pre .0, search needs, λ d. sym (or-false _))
 
 read-requires : tie.Need-read-requires Inv-loop μ-loop
 read-requires c κs = search needs
@@ -68,14 +71,14 @@ loop-again : tie.Need-loop-again Inv-loop μ-loop
 unfolding onLine lineOf
 loop-again c =
     let l = c .before .before .before .before .loop in
-    let a = c .before .before .before .before .before .before .before .before .args in
+    let a = c .before .before .before .before .before .before .before .before .before .args in
     let line = c .before .line-of in (
       length-set (l .words) _ _ ∙ l .inv .0,
       omega arith,
       λ d.
           in-added (l .words) (line .result) d (l .inv .0) (line .ensures .1) ∙
           ap₂ _||_ (l .inv .2 d)
-          (ap (eqb d) (line .ensures .0 ∙ ap₂ _%_ (c .before .before .read .ensures) (c .before .before .before .before .before .before .line-count .ensures .0))) ∙
+          (ap (eqb d) (line .ensures .0 ∙ ap₂ _%_ (c .before .before .read .ensures) (c .before .before .before .before .before .before .before .line-count .ensures .0))) ∙
           or-assoc (inWords (a .words .now) d) (anyRead (onLine (taskOf (a .file .now)) d) (take (l .j) (entryReads (a .file .now) (a .k)))) _ ∙
           ap (λ (x : Bool). inWords (a .words .now) d || x)
           (sym (any-take (onLine (taskOf (a .file .now)) d) (entryReads (a .file .now) (a .k)) (l .j) (omega arith))),
@@ -83,7 +86,7 @@ loop-again c =
 
 returns : tie.Need-returns Inv-loop μ-loop
 returns c =
-    let a = c .before .before .before .before .before .args in
+    let a = c .before .before .before .before .before .before .args in
     let l = c .before .loop in (
       l .inv .0,
       λ d.
@@ -98,6 +101,7 @@ add-reads-spec =
     Inv-loop
     μ-loop
     line-count-requires
+    inverse-of-requires
     read-count-requires
     loop-holds
     read-requires

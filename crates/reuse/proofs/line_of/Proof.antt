@@ -1,20 +1,29 @@
--- `reuse::line_of` meets its contract: a remainder is below what it is taken by.
+-- `reuse::line_of` meets its contract: the remainder is what the quotient leaves, or that less count.
 -- Assumes nothing.
-use mathlib.Core.Path.{refl}
-use borrow.Author.Needs.{needs}
-use native.Mathlib.Nat.{mod-lt, lt-of-lt-of-le}
 use native.Mathlib.Omega.{arith}
+use Rattle.reuse.proofs.Remainders.{product-fits, quotient-le, rest-lt, rest-below, rest-above}
 use Rattle.reuse.proofs.line_of.Statement.{statement}
 use Rattle.reuse.proofs.line_of.Tie as tie
 
-rem-result : tie.Need-rem-result
-rem-result c = search needs
+mul-quotient : tie.Need-mul-quotient
+mul-quotient c = omega (arith, product-fits (c .pre .0) (c .fits .number .fits) (c .pre .2))
 
-cast-result : tie.Need-cast-result
-cast-result c = omega (arith, mod-lt (c .args .number) (c .pre .0))
+mul-rest : tie.Need-mul-rest
+mul-rest c = omega (arith, quotient-le (c .pre .0) (c .fits .number .fits) (c .pre .2))
+
+sub-rest : tie.Need-sub-rest
+sub-rest c = quotient-le (c .pre .0) (c .fits .number .fits) (c .pre .2)
 
 returns : tie.Need-returns
-returns c = (refl, lt-of-lt-of-le (mod-lt (c .args .number) (c .pre .0)) (c .pre .1))
+returns c =
+    let start = c .before in
+    (rest-below (start .pre .0) (start .fits .number .fits) (start .pre .2) (omega arith), omega arith)
+
+returns-2 : tie.Need-returns-2
+returns-2 c =
+    let start = c .before in
+    let high = rest-lt (start .pre .0) (start .fits .number .fits) (start .pre .2) in
+    (rest-above (start .pre .0) (start .fits .number .fits) (start .pre .2) (omega arith), omega arith)
 
 pub line-of-spec : {M : Type 1} → statement M
-line-of-spec = tie.close (tie.spec rem-result cast-result returns)
+line-of-spec = tie.close (tie.spec mul-quotient mul-rest sub-rest returns returns-2)

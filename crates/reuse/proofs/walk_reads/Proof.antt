@@ -18,18 +18,18 @@ use Rattle.reuse.proofs.walk_reads.Statement.{statement}
 use Rattle.reuse.proofs.walk_reads.Tie as tie
 
 abbrev Inv-loop2 : tie.InvT-loop2
-Inv-loop2 file useful₀ accessed₀ blocks count held₀ since₀ i k reads j₀ useful accessed held since j =
+Inv-loop2 file useful₀ accessed₀ blocks count inverse held₀ since₀ i k reads j₀ useful accessed held since j =
     (j ≤ reads) × Walked (taskOf file) (edge (taskOf file) i + j) held since useful × Gathered (taskOf file) i j accessed
 
 abbrev μ-loop2 : tie.MeasureT-loop2
-μ-loop2 file useful₀ accessed₀ blocks count held₀ since₀ i k reads j₀ useful accessed held since j = reads - j
+μ-loop2 file useful₀ accessed₀ blocks count inverse held₀ since₀ i k reads j₀ useful accessed held since j = reads - j
 
 abbrev Inv-loop : tie.InvT-loop
-Inv-loop file useful₀ accessed₀ blocks count held₀ since₀ i₀ useful accessed held since i =
+Inv-loop file useful₀ accessed₀ blocks count inverse held₀ since₀ i₀ useful accessed held since i =
     (i ≤ blocks) × Walked (taskOf file) (edge (taskOf file) i) held since useful × Gathered (taskOf file) i 0 accessed
 
 abbrev μ-loop : tie.MeasureT-loop
-μ-loop file useful₀ accessed₀ blocks count held₀ since₀ i₀ useful accessed held since i = blocks - i
+μ-loop file useful₀ accessed₀ blocks count inverse held₀ since₀ i₀ useful accessed held since i = blocks - i
 
 block-count-requires : tie.Need-block-count-requires Inv-loop2 μ-loop2 Inv-loop μ-loop
 block-count-requires c κs = search needs
@@ -37,10 +37,13 @@ block-count-requires c κs = search needs
 line-count-requires : tie.Need-line-count-requires Inv-loop2 μ-loop2 Inv-loop μ-loop
 line-count-requires c κs = search needs
 
+inverse-of-requires : tie.Need-inverse-of-requires Inv-loop2 μ-loop2 Inv-loop μ-loop
+inverse-of-requires c κs = search needs
+
 loop-holds : tie.Need-loop-holds Inv-loop2 μ-loop2 Inv-loop μ-loop
 unfolding readsOf
 loop-holds c =
-    let start = c .before .before .before in (
+    let start = c .before .before .before .before in (
       search needs,
       walked-none (taskOf (start .args .file .now)) (replicate 512 Empty) (replicate 512 0) (start .args .useful .now) refl refl
           (λ d h. getD-replicate 512 d Empty Empty h) (λ d h. getD-replicate 512 d 0 0 h) (start .pre .1 .0),
@@ -52,7 +55,7 @@ add-k c = omega arith
 
 read-count-requires : tie.Need-read-count-requires Inv-loop2 μ-loop2 Inv-loop μ-loop
 read-count-requires c κs =
-    let start = c .before .before .before .before .before in
+    let start = c .before .before .before .before .before .before in
     (start .pre .0, omega arith, omega (arith, accepted-file.block-count (start .args .file .now)))
 
 loop2-holds : tie.Need-loop2-holds Inv-loop2 μ-loop2 Inv-loop μ-loop
@@ -60,7 +63,7 @@ loop2-holds c = (search needs, rw add-zero (c .before .before .loop .inv .1), c 
 
 read-requires : tie.Need-read-requires Inv-loop2 μ-loop2 Inv-loop μ-loop
 read-requires c κs =
-    let start = c .before .before .before .before .before .before .before .before in
+    let start = c .before .before .before .before .before .before .before .before .before in
     ((start .pre .0, omega arith, omega (arith, accepted-file.block-count (start .args .file .now))), omega arith)
 
 line-of-requires : tie.Need-line-of-requires Inv-loop2 μ-loop2 Inv-loop μ-loop
@@ -80,7 +83,7 @@ array-read-add-reread c = omega arith
 
 add-reread-requires : tie.Need-add-reread-requires Inv-loop2 μ-loop2 Inv-loop μ-loop
 add-reread-requires c κs =
-    let file = c .before .before .before .before .before .before .before .before .before .before .before .before .args .file .now in
+    let file = c .before .before .before .before .before .before .before .before .before .before .before .before .before .args .file .now in
     let outer = c .before .before .before .before .before .before .before .before .loop in
     let inner = c .before .before .before .before .before .loop2 in
     let inside : outer .i < blockCount (taskOf file) = omega arith in
@@ -116,7 +119,7 @@ loop2-less c = omega arith
 loop2-again : tie.Need-loop2-again Inv-loop2 μ-loop2 Inv-loop μ-loop
 unfolding lineOf
 loop2-again c =
-    let file = c .before .before .before .before .before .before .before .before .before .before .before .before .before .before .before .args .file .now in
+    let file = c .before .before .before .before .before .before .before .before .before .before .before .before .before .before .before .before .args .file .now in
     let outer = c .before .before .before .before .before .before .before .before .before .before .before .loop in
     let inner = c .before .before .before .before .before .before .before .before .loop2 in
     let number = c .before .before .before .before .before .before .read in
@@ -126,7 +129,7 @@ loop2-again c =
     let counted : inner .j < length (blockAt (taskOf file) (outer .i) .reads) = rw reads-are (omega arith) in
     let number-is : getD (blockAt (taskOf file) (outer .i) .reads) (inner .j) 0 ≡ number .result = rw reads-are (sym (number .ensures)) in
     let line-is : line .result ≡ lineOf (taskOf file) (number .result) =
-    line .ensures .0 ∙ ap (λ (s : ℕ). number .result % s) (c .before .before .before .before .before .before .before .before .before .before .before .before .line-count .ensures .0) in (
+    line .ensures .0 ∙ ap (λ (s : ℕ). number .result % s) (c .before .before .before .before .before .before .before .before .before .before .before .before .before .line-count .ensures .0) in (
       omega arith,
       walked-more (taskOf file) (outer .i) (inner .j) (outer .i + 1) (number .result) (line .result) _ (inner .held) (inner .since) (inner .useful)
           (c .before .before .add-reread .last .0) inside counted (add-one (outer .i)) number-is (line .ensures .1) line-is (omega arith)
@@ -143,7 +146,7 @@ loop-less c = omega arith
 
 loop-again : tie.Need-loop-again Inv-loop2 μ-loop2 Inv-loop μ-loop
 loop-again c =
-    let file = c .before .before .before .before .before .before .before .before .args .file .now in
+    let file = c .before .before .before .before .before .before .before .before .before .args .file .now in
     let outer = c .before .before .before .before .loop in
     let inner = c .before .loop2 in
     let reads-are = accepted-file.reads-at file (outer .i) (omega (arith, accepted-file.block-count file)) in
@@ -157,7 +160,7 @@ loop-again c =
 
 returns : tie.Need-returns Inv-loop2 μ-loop2 Inv-loop μ-loop
 returns c =
-    let file = c .before .before .before .before .before .args .file .now in
+    let file = c .before .before .before .before .before .before .args .file .now in
     let l = c .before .loop in
     let done : l .i ≡ blockCount (taskOf file) = omega arith in (
       walked-all (taskOf file) (edge (taskOf file) (l .i)) (l .held) (l .since) (l .useful) (ap (edge (taskOf file)) done ∙ edge-end (taskOf file))
@@ -175,6 +178,7 @@ walk-reads-spec =
     μ-loop
     block-count-requires
     line-count-requires
+    inverse-of-requires
     loop-holds
     add-k
     read-count-requires

@@ -116,16 +116,16 @@ fn fill_row(
         if region.length > limit {
             return;
         }
-        table[at] = cost(file, region);
+        table[at] = cost(file, region.loaded);
     }
 }
 
-// What a region costs.
-fn cost(file: &[u8], region: Region) -> u64
+// What the reloads of a set of lines cost.
+fn cost(file: &[u8], loaded: LineSet) -> u64
     requires { ⌜ verdict (now file) ≡ Verdict.Accepted ⌝ }
-    ensures { λ r. ⌜ (r ≡ taskOf (now (file .entry)) .reload * size (members (region .loaded))) × (r < 2 ^ 56) ⌝ }
+    ensures { λ r. ⌜ (r ≡ taskOf (now (file .entry)) .reload * size (members loaded)) × (r < 2 ^ 56) ⌝ }
 {
-    taskfile::reload(file) as u64 * region.loaded.size() as u64
+    taskfile::reload(file) as u64 * loaded.size() as u64
 }
 
 // No basic blocks, at edge a.
@@ -165,7 +165,7 @@ fn region_of(file: &[u8], useful: &[u64; 520], evicted: LineSet, run: Run) -> Re
     ensures { λ r. ⌜ Measures (taskOf (now (file .entry))) (run .from) (run .to) r ⌝ }
 {
     let loaded = lines_at(useful, run.from).common(evicted).common(run.lines);
-    let reloads = taskfile::reload(file) as u64 * loaded.size() as u64;
+    let reloads = cost(file, loaded);
     let length = run.time + reloads;
     Region { loaded, length }
 }

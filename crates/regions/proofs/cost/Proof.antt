@@ -1,4 +1,4 @@
--- `regions::cost` meets its contract: a region has at most 512 lines, so its cost fits.
+-- `regions::cost` meets its contract: a set has at most 512 lines, so the cost fits.
 -- Assumes nothing.
 use Prim.Native.Nat.{_*_, _^_, _<_}
 use mathlib.Core.Path.{ap₂}
@@ -23,7 +23,7 @@ cast-result-2 c = search needs
 -- the cost in 56 bits
 small : (c : tie.After-size) → c .before .reload .result * c .size .result < 2 ^ 56
 small c =
-    let lines = few-lines (c .before .before .before .args .region .loaded) (c .size .ensures) in
+    let lines = few-lines (c .before .before .before .args .loaded) (c .size .ensures) in
     omega (arith, cost-le 512 {reload = c .before .reload .result} (omega arith) lines)
 
 mul-result : tie.Need-mul-result

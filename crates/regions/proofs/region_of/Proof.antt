@@ -1,7 +1,7 @@
--- `regions::region_of` meets its contract: the loaded lines are those in common, and the length is the time and a reload for each of at most 512 lines.
+-- `regions::region_of` meets its contract: the loaded lines are those in common, and the length is the time and what the reloads cost.
 -- Assumes nothing.
-use Prim.Native.Nat.{ℕ, _+_, _*_, _≤_}
-use mathlib.Core.Path.{_≡_, ap₂, _∙_}
+use Prim.Native.Nat.{ℕ, _+_, _*_}
+use mathlib.Core.Path.{_≡_, ap, ap₂, _∙_}
 use mathlib.Core.Bool.{_&&_}
 use native.Mathlib.Omega.{arith}
 use borrow.Author.Needs.{needs}
@@ -9,7 +9,6 @@ use Rattle.model.specs.Regions.{loaded, regionLines, regionLength}
 use Rattle.model.proofs.Sets.{size-agree}
 use Rattle.lineset.specs.Members.{members}
 use Rattle.taskfile.specs.File.{taskOf}
-use Rattle.regions.proofs.Widths.{few-lines, cost-le}
 use Rattle.regions.proofs.Runs.{few-blocks}
 use Rattle.regions.proofs.region_of.Statement.{statement}
 use Rattle.regions.proofs.region_of.Tie as tie
@@ -26,36 +25,19 @@ common-requires c κs = search needs
 common-requires-2 : tie.Need-common-requires-2
 common-requires-2 c κs = search needs
 
-reload-requires : tie.Need-reload-requires
-reload-requires c κs = search needs
-
-cast-reloads : tie.Need-cast-reloads
-cast-reloads c = search needs
-
-size-requires : tie.Need-size-requires
-size-requires c κs = search needs
-
-cast-reloads-2 : tie.Need-cast-reloads-2
-cast-reloads-2 c = search needs
-
--- the reloads of 512 lines
-reloads : (c : tie.After-size) → c .before .reload .result * c .size .result ≤ 4294967295 * 512
-reloads c =
-    cost-le 512 (omega arith) (few-lines (c .before .before .common2 .result) (c .size .ensures))
-
-mul-reloads : tie.Need-mul-reloads
-mul-reloads c = omega (arith, reloads c)
+cost-requires : tie.Need-cost-requires
+cost-requires c κs = search needs
 
 add-length : tie.Need-add-length
 add-length c =
-    let start = c .before .before .before .before .before .before .before in
-    omega (arith, reloads (c .before), start .pre .1 .small, start .pre .1 .within, few-blocks (start .args .file .now) (start .pre .0 .0))
+    let start = c .before .before .before .before .before .before in
+    omega (arith, start .pre .1 .small, start .pre .1 .within, few-blocks (start .args .file .now) (start .pre .0 .0))
 
 returns : tie.Need-returns
 unfolding loaded regionLines regionLength
 returns c =
-    let sized = c .before in
-    let both = sized .before .before in
+    let priced = c .before in
+    let both = priced .before in
     let start = both .before .before .before .before in
     let t = taskOf (start .args .file .now) in
     let run = start .args .run in
@@ -69,7 +51,7 @@ returns c =
     (spans .lines d) in
     record {
       loaded = lines;
-      length = ap₂ _+_ (spans .time) (ap₂ _*_ (sized .before .reload .ensures) (sized .size .ensures ∙ size-agree (λ d _. lines d)));
+      length = ap₂ _+_ (spans .time) (priced .cost .ensures .0 ∙ ap (λ (n : ℕ). t .reload * n) (size-agree (λ d _. lines d)));
     }
 
 pub region-of-spec : {M : Type 1} → statement M
@@ -79,10 +61,6 @@ region-of-spec =
     lines-at-requires
     common-requires
     common-requires-2
-    reload-requires
-    cast-reloads
-    size-requires
-    cast-reloads-2
-    mul-reloads
+    cost-requires
     add-length
     returns)

@@ -103,8 +103,9 @@ fn store_into(plan: Plan, n: usize) -> Verdict
     planblock::store(plan, &mut out[0..n])
 }
 
-fn store(plan: Plan) -> Verdict {
-    store_into(plan, 512)
+// Stores a plan with these first three entries.
+fn store(case: &[u8], blocks: u16, count: u16, a: u16, b: u16, c: u16) {
+    show(case, store_into(plan(blocks, count, a, b, c), 512));
 }
 
 fn read_zeros(n: usize) -> Verdict
@@ -125,6 +126,13 @@ fn read_with(plan: Plan, at: usize, byte: u8) -> Verdict
     block::seal(&mut bytes);
     let read = planblock::read(&bytes);
     read.verdict
+}
+
+// Stores the right plan, sets one byte, makes the checksum right and reads.
+fn read(case: &[u8], at: usize, byte: u8)
+    requires { ⌜ at < 512 ⌝ }
+{
+    show(case, read_with(right(), at, byte));
 }
 
 // Stores a plan, changes one byte and reads.
@@ -200,27 +208,27 @@ fn buffers() {
 
 // Then 7 at 0: N is 1 to 64, and the count at most 63.
 fn ranges() {
-    show(b"store n0", store(plan(0, 0, 0, 0, 0)));
-    show(b"store n1", store(plan(1, 0, 0, 0, 0)));
-    show(b"store n64", store(plan(64, 2, 1, 63, 0)));
-    show(b"store n65", store(plan(65, 2, 1, 3, 0)));
-    show(b"store n65, equal points", store(plan(65, 2, 1, 1, 0)));
-    show(b"store count 63", store(all_points(63)));
-    show(b"store count 64", store(all_points(64)));
+    store(b"store n0", 0, 0, 0, 0, 0);
+    store(b"store n1", 1, 0, 0, 0, 0);
+    store(b"store n64", 64, 2, 1, 63, 0);
+    store(b"store n65", 65, 2, 1, 3, 0);
+    store(b"store n65, equal points", 65, 2, 1, 1, 0);
+    show(b"store count 63", store_into(all_points(63), 512));
+    show(b"store count 64", store_into(all_points(64), 512));
 }
 
 // Then 7 at the lowest wrong entry.
 fn entries() {
-    show(b"store point 0", store(plan(4, 2, 0, 3, 0)));
-    show(b"store point N", store(plan(4, 2, 1, 4, 0)));
-    show(b"store equal points", store(plan(4, 2, 2, 2, 0)));
-    show(b"store falling points", store(plan(4, 2, 3, 1, 0)));
-    show(b"store two wrong points", store(plan(4, 3, 1, 1, 9)));
+    store(b"store point 0", 4, 2, 0, 3, 0);
+    store(b"store point N", 4, 2, 1, 4, 0);
+    store(b"store equal points", 4, 2, 2, 2, 0);
+    store(b"store falling points", 4, 2, 3, 1, 0);
+    store(b"store two wrong points", 4, 3, 1, 1, 9);
+    store(b"store entry 2 beyond the count", 4, 2, 1, 3, 2);
     show(
-        b"store entry 2 beyond the count",
-        store(plan(4, 2, 1, 3, 2)),
+        b"store entry 63 beyond the count",
+        store_into(with_last(), 512),
     );
-    show(b"store entry 63 beyond the count", store(with_last()));
     if kept(with_last()) {
         io::write_all(STDOUT_FILENO, b"the refused store left the buffer\n");
     }
@@ -234,41 +242,41 @@ fn frames() {
     show(b"read 512 zeros", read_zeros(512));
     show(b"read with byte 8 changed", read_changed(right(), 8));
     show(b"read with byte 511 changed", read_changed(right(), 511));
-    show(b"read as stored", read_with(right(), 20, 1));
+    read(b"read as stored", 20, 1);
 }
 
 // Then 5: a wrong field under a right checksum.
 fn fields() {
-    show(b"read kind 3", read_with(right(), 0, 3));
-    show(b"read byte 1 not zero", read_with(right(), 1, 1));
-    show(b"read n0", read_with(right(), 2, 0));
-    show(b"read n65", read_with(right(), 2, 65));
-    show(b"read n260", read_with(right(), 3, 1));
-    show(b"read count 64", read_with(right(), 4, 64));
-    show(b"read count 258", read_with(right(), 5, 1));
-    show(b"read byte 503 not zero", read_with(right(), 503, 1));
-    show(b"read block number 1", read_with(right(), 504, 1));
+    read(b"read kind 3", 0, 3);
+    read(b"read byte 1 not zero", 1, 1);
+    read(b"read n0", 2, 0);
+    read(b"read n65", 2, 65);
+    read(b"read n260", 3, 1);
+    read(b"read count 64", 4, 64);
+    read(b"read count 258", 5, 1);
+    read(b"read byte 503 not zero", 503, 1);
+    read(b"read block number 1", 504, 1);
 }
 
 // The lines, the cost and the id are free.
 fn free_fields() {
-    show(b"read other lines", read_with(right(), 6, 255));
-    show(b"read another cost", read_with(right(), 15, 255));
-    show(b"read another id", read_with(right(), 19, 255));
+    read(b"read other lines", 6, 255);
+    read(b"read another cost", 15, 255);
+    read(b"read another id", 19, 255);
 }
 
 // And wrong points: points 1 and 3 stand at bytes 20 and 22.
 fn points() {
-    show(b"read point 0", read_with(right(), 20, 0));
-    show(b"read point N", read_with(right(), 22, 4));
-    show(b"read equal points", read_with(right(), 22, 1));
+    read(b"read point 0", 20, 0);
+    read(b"read point N", 22, 4);
+    read(b"read equal points", 22, 1);
     show(
         b"read falling points",
         read_with(plan(64, 2, 5, 9, 0), 22, 4),
     );
-    show(b"read one point more", read_with(right(), 4, 3));
-    show(b"read one point less", read_with(right(), 4, 1));
-    show(b"read point 2, not 1", read_with(right(), 20, 2));
+    read(b"read one point more", 4, 3);
+    read(b"read one point less", 4, 1);
+    read(b"read point 2, not 1", 20, 2);
 }
 
 fn main() {

@@ -71,7 +71,7 @@ fileSeven s q =
 abbrev pub oneBlock : ℕ → Task
 oneBlock q = record { id = 7; lineCount = 4; limit = q; reload = 10; blocks = block 60 [] ∷ []; preempters = [] }
 
--- four basic blocks that read one number, which the preempter's evicts
+-- four basic blocks that read one number, whose line the preempter evicts
 abbrev pub sameRead : Task
 sameRead =
     record {

@@ -1,4 +1,5 @@
 # make, make lib    prove the planner and build its static library
+# make parts        that, the tests' library and the program plan
 # make example      build the C example and hold what it prints on File Seven to its file 'expected'
 # make release      the library, its header and how to link them, in one archive
 # make test-c       unpack the release and call it from C
@@ -10,18 +11,34 @@
 CC := gcc
 CFLAGS := -O2 -std=c11 -Wall -Wextra -Werror -pedantic -Wconversion
 VERSION := $(shell cat VERSION)
+SOURCES := crates.txt $(shell find crates -name '*.rt' -o -name '*.antt')
 LIB := target/staticlib/libfirmware.a
+PROBE := target/staticlib/libprobe.a
+PLAN := target/bin/plan
 NAME := preempt-$(VERSION)
 RELEASE := target/release/$(NAME)
 UNPACKED := target/test-c/$(NAME)
 
-.PHONY: lib probe example release test-c test-plan opponent bench clean
+.PHONY: lib parts example release test-c test-plan opponent bench clean
 .DELETE_ON_ERROR:
+# Two calls of rt at once would overwrite each other's notes in target/.
+.NOTPARALLEL:
 
 lib: $(LIB)
 
-$(LIB): crates.txt $(shell find crates -name '*.rt' -o -name '*.antt')
-	rt staticlib firmware
+parts: $(LIB) $(PROBE) $(PLAN)
+
+# rt check proves crates side by side where it can; rt staticlib does not.
+target/planner.proved: $(SOURCES)
+	rt check planner
+	touch $@
+
+$(LIB) $(PROBE): target/staticlib/lib%.a: target/planner.proved
+	rt staticlib $*
+
+$(PLAN): target/planner.proved
+	rt check plan
+	touch $@
 
 target/example/firmware: examples/firmware/main.c include/preempt.h $(LIB)
 	mkdir -p $(@D)
@@ -45,19 +62,17 @@ test-c: $(RELEASE).tar.gz
 	rm -rf target/test-c
 	mkdir -p target/test-c
 	tar -C target/test-c -xzf $<
+	has=$$(nm -g --defined-only $(UNPACKED)/lib/libfirmware.a | sed -n 's/^[0-9a-f]* [A-Z] //p' | sort | xargs); \
+	test "$$has" = 'preempt_plan preempt_price' || { echo "the archive exports: $$has"; exit 1; }
 	needs=$$(nm -u $(UNPACKED)/lib/libfirmware.a | sed -n 's/^ *U //p' | sort -u | xargs); \
 	grep -q "needs: $$needs$$" $(UNPACKED)/LINKING.txt || { echo "LINKING.txt does not say that the archive needs: $$needs"; exit 1; }
 	$(CC) $(CFLAGS) -I$(UNPACKED)/include tests/c/release.c $(UNPACKED)/lib/libfirmware.a -o target/test-c/release
 	ulimit -s 128 && env -i target/test-c/release examples/firmware/seven.bin
 
-test-plan:
-	rt check plan
-	test "$$(target/bin/plan <crates/planner_cases/data/seven-29)" = 'refused 6 at 0'
+test-plan: $(PLAN)
+	test "$$($(PLAN) <crates/planner_cases/data/seven-29)" = 'refused 6 at 0'
 
-probe:
-	rt staticlib probe
-
-opponent: $(LIB) probe
+opponent: $(LIB) $(PROBE)
 	PLANNER_LIB_DIR=$(CURDIR)/target/staticlib CARGO_TARGET_DIR=$(CURDIR)/target/opponent \
 		cargo run --release --offline --locked --quiet --manifest-path tests/Cargo.toml -- $(SEED) $(COUNT) $(CASE)
 

@@ -1,9 +1,9 @@
 // The firmware's C calls: planning and pricing on bytes, the plan in a lent block.
 ghost use mathlib.Core.Bool.{cond};
 ghost use mathlib.Core.Path.{_≡_};
-ghost use Prim.Native.Nat.{_+_, _*_, _≤_};
+ghost use Prim.Native.Nat.{_+_, _≤_};
 ghost use lib.ListN.{length};
-ghost use Rattle.model.specs.Answers.{number, place, returned, onAccepted};
+ghost use Rattle.model.specs.Answers.{place, returned, onAccepted};
 ghost use Rattle.planblock.specs.Plans.{planVerdict, planBytes};
 ghost use Rattle.firmware.specs.Calls.{PlanCall, priceReturned, priceLeft};
 use model::Plan;
@@ -16,7 +16,7 @@ pub extern "C" fn preempt_plan(file: &[u8], block: &mut [u8]) -> u32
     ensures { λ r. ⌜ PlanCall (now (file .entry)) (now (block .entry)) r (now (block .exit)) ⌝ }
 {
     if block.len() != 512 {
-        return refused(Refusal::Output, 0);
+        return answers::refused(Refusal::Output, 0);
     }
     let least = planner::plan(file);
     let verdict = least.verdict;
@@ -31,7 +31,7 @@ pub extern "C" fn preempt_price(file: &[u8], points: &[u8], block: &mut [u8]) ->
     ensures { λ _. ⌜ now (block .exit) ≡ priceLeft (now (file .entry)) (now (points .entry)) (now (block .entry)) ⌝ }
 {
     if block.len() != 512 {
-        return refused(Refusal::Output, 0);
+        return answers::refused(Refusal::Output, 0);
     }
     let priced = planner::price_block(file, points);
     let verdict = priced.verdict;
@@ -47,7 +47,7 @@ fn leave(verdict: Verdict, shift: u32, plan: Plan, block: &mut [u8]) -> u32
     ensures { λ _. ⌜ now (block .exit) ≡ onAccepted verdict (planBytes plan) (now (block .entry)) ⌝ }
 {
     keep(verdict, plan, block);
-    answer(verdict, shift)
+    answers::answer(verdict, shift)
 }
 
 // Leaves an accepted plan in the block.
@@ -55,20 +55,9 @@ fn keep(verdict: Verdict, plan: Plan, block: &mut [u8])
     requires { ⌜ (length (now block) ≡ 512) × (verdict ≡ Verdict.Accepted → planVerdict plan ≡ Verdict.Accepted) ⌝ }
     ensures { λ _. ⌜ now (block .exit) ≡ onAccepted verdict (planBytes plan) (now (block .entry)) ⌝ }
 {
-    let accepted = planner::accepted(verdict);
+    let accepted = answers::accepted(verdict);
     if accepted {
         planner::store(plan, block);
-    }
-}
-
-// What a call returns: 0, or the refusal with the shift added to its place.
-fn answer(verdict: Verdict, shift: u32) -> u32
-    requires { ⌜ ((x : Refusal) → verdict ≡ Verdict.Refused x → place x ≤ 97) × (shift ≤ 97) ⌝ }
-    ensures { λ r. ⌜ r ≡ onAccepted verdict 0 (returned verdict + shift) ⌝ }
-{
-    match verdict {
-        Verdict::Accepted => 0,
-        Verdict::Refused(refusal) => refused(refusal, shift),
     }
 }
 
@@ -77,12 +66,4 @@ fn shift(unread: bool) -> u32
     ensures { λ r. ⌜ (r ≡ cond unread 97 0) × (r ≤ 97) ⌝ }
 {
     if unread { 97 } else { 0 }
-}
-
-// What a refusal returns.
-fn refused(refusal: Refusal, shift: u32) -> u32
-    requires { ⌜ (place refusal ≤ 97) × (shift ≤ 97) ⌝ }
-    ensures { λ r. ⌜ r ≡ number refusal * 65536 + place refusal + shift ⌝ }
-{
-    planner::refusal_number(refusal) * 65536 + planner::refusal_place(refusal) as u32 + shift
 }

@@ -16,8 +16,8 @@ fn end_line() {
 }
 
 fn print_refusal(refusal: Refusal) {
-    print_field(b"refused ", planner::refusal_number(refusal) as u64);
-    print_field(b" at ", planner::refusal_place(refusal) as u64);
+    print_field(b"refused ", answers::refusal_number(refusal) as u64);
+    print_field(b" at ", answers::refusal_place(refusal) as u64);
     end_line();
 }
 

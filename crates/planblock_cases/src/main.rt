@@ -5,40 +5,7 @@ use model::Refusal;
 use model::Verdict;
 ghost use mathlib.Core.Path.{_≡_};
 ghost use Prim.Native.Nat.{_≤_, _<_};
-ghost use Rattle.model.specs.Answers.{number as Answers·number, place as Answers·place};
 ghost use Rattle.planblock.specs.Plans.{planVerdict};
-
-fn number(refusal: Refusal) -> u64
-    ensures { λ r. ⌜ r ≡ Answers·number refusal ⌝ }
-{
-    match refusal {
-        Refusal::Length => 1,
-        Refusal::Checksum(_) => 2,
-        Refusal::Header => 3,
-        Refusal::BlockCount => 4,
-        Refusal::Block(_) => 5,
-        Refusal::NoPlacement => 6,
-        Refusal::Argument(_) => 7,
-        Refusal::AboveLimit(_) => 8,
-        Refusal::Output => 9,
-    }
-}
-
-fn place(refusal: Refusal) -> usize
-    ensures { λ r. ⌜ r ≡ Answers·place refusal ⌝ }
-{
-    match refusal {
-        Refusal::Length => 0,
-        Refusal::Checksum(k) => k,
-        Refusal::Header => 0,
-        Refusal::BlockCount => 0,
-        Refusal::Block(k) => k,
-        Refusal::NoPlacement => 0,
-        Refusal::Argument(i) => i,
-        Refusal::AboveLimit(i) => i,
-        Refusal::Output => 0,
-    }
-}
 
 fn print(label: &[u8], n: u64) {
     io::write_all(STDOUT_FILENO, label);
@@ -52,8 +19,8 @@ fn show(case: &[u8], verdict: Verdict) {
             io::write_all(STDOUT_FILENO, b": accepted\n");
         }
         Verdict::Refused(refusal) => {
-            print(b": refused ", number(refusal));
-            print(b" at ", place(refusal) as u64);
+            print(b": refused ", answers::refusal_number(refusal) as u64);
+            print(b" at ", answers::refusal_place(refusal) as u64);
             io::write_all(STDOUT_FILENO, b"\n");
         }
     }

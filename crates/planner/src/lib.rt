@@ -3,8 +3,7 @@ ghost use mathlib.Core.Bool.{false};
 ghost use mathlib.Core.Path.{_≡_};
 ghost use lib.ListN.{length, drop, replicate};
 ghost use Prim.Native.Nat.{_-_, _<_, _≤_};
-ghost use Rattle.model.specs.Answers.{number, place, onAccepted, andThen, pricing};
-ghost use Rattle.model.specs.Answers as Answers;
+ghost use Rattle.model.specs.Answers.{onAccepted, pricing};
 ghost use Rattle.model.specs.Planning.{chosen, planFor, noPlan, Planned};
 ghost use Rattle.taskfile.specs.File.{verdict, taskOf};
 ghost use Rattle.planblock.specs.Plans.{storeVerdict, stored, readVerdict, planOf};
@@ -16,60 +15,6 @@ use model::Refusal;
 use model::Verdict;
 use planblock::PlanRead;
 use regions::Price;
-
-// A refusal's number in the table of document 01.
-pub fn refusal_number(refusal: Refusal) -> u32
-    ensures { λ r. ⌜ r ≡ number refusal ⌝ }
-{
-    match refusal {
-        Refusal::Length => 1,
-        Refusal::Checksum(_) => 2,
-        Refusal::Header => 3,
-        Refusal::BlockCount => 4,
-        Refusal::Block(_) => 5,
-        Refusal::NoPlacement => 6,
-        Refusal::Argument(_) => 7,
-        Refusal::AboveLimit(_) => 8,
-        Refusal::Output => 9,
-    }
-}
-
-// The place that a refusal names.
-pub fn refusal_place(refusal: Refusal) -> usize
-    ensures { λ r. ⌜ r ≡ place refusal ⌝ }
-{
-    match refusal {
-        Refusal::Length => 0,
-        Refusal::Checksum(block) => block,
-        Refusal::Header => 0,
-        Refusal::BlockCount => 0,
-        Refusal::Block(block) => block,
-        Refusal::NoPlacement => 0,
-        Refusal::Argument(index) => index,
-        Refusal::AboveLimit(region) => region,
-        Refusal::Output => 0,
-    }
-}
-
-// Whether a verdict accepts.
-pub fn accepted(verdict: Verdict) -> bool
-    ensures { λ r. ⌜ r ≡ Answers.accepted verdict ⌝ }
-{
-    match verdict {
-        Verdict::Accepted => true,
-        Verdict::Refused(_) => false,
-    }
-}
-
-// The first refusal of two verdicts, in this order.
-fn earlier(first: Verdict, second: Verdict) -> Verdict
-    ensures { λ r. ⌜ r ≡ andThen first second ⌝ }
-{
-    match first {
-        Verdict::Accepted => second,
-        Verdict::Refused(refusal) => Verdict::Refused(refusal),
-    }
-}
 
 // The useful lines at an edge.
 pub struct UsefulLines {
@@ -208,9 +153,9 @@ pub fn price_block(file: &[u8], block: &[u8]) -> BlockPrice
     let checked = taskfile::check(file);
     let read = planblock::read(block);
     let readable = read.verdict;
-    let before = earlier(checked, readable);
+    let before = answers::earlier(checked, readable);
     let Verdict::Accepted = before else {
-        return no_block_price(before, accepted(checked));
+        return no_block_price(before, answers::accepted(checked));
     };
     let all = all_lines(file);
     let useful = all.useful;

@@ -9,9 +9,9 @@ use model::Verdict;
 
 fn print_refusal(why: Refusal) {
     io::write_all(STDOUT_FILENO, b" refused ");
-    io::print_decimal(STDOUT_FILENO, planner::refusal_number(why) as u64);
+    io::print_decimal(STDOUT_FILENO, answers::refusal_number(why) as u64);
     io::write_all(STDOUT_FILENO, b" at ");
-    io::print_decimal(STDOUT_FILENO, planner::refusal_place(why) as u64);
+    io::print_decimal(STDOUT_FILENO, answers::refusal_place(why) as u64);
     io::write_all(STDOUT_FILENO, b"\n");
 }
 

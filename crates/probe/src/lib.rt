@@ -2,9 +2,9 @@
 // A set is eight words of eight bytes, their lowest byte first.
 ghost use mathlib.Core.List.{[], _∷_, _++_};
 ghost use mathlib.Core.Path.{_≡_};
-ghost use Prim.Native.Nat.{_+_, _*_, _≤_};
+ghost use Prim.Native.Nat.{_≤_};
 ghost use lib.ListN.{length, take};
-ghost use Rattle.model.specs.Answers.{number, place, returned, onAccepted};
+ghost use Rattle.model.specs.Answers.{onAccepted};
 ghost use Rattle.block.specs.Bytes.{les};
 ghost use Rattle.probe.specs.Calls.{usefulReturned, usefulLeft, regionReturned, regionLeft};
 use lineset::LineSet;
@@ -20,12 +20,12 @@ pub extern "C" fn probe_useful(file: &[u8], k: usize, out: &mut [u8]) -> u32
     ensures { λ _. ⌜ now (out .exit) ≡ usefulLeft (now (file .entry)) k (now (out .entry)) ⌝ }
 {
     if out.len() != 64 {
-        return refused(Refusal::Output);
+        return answers::refused(Refusal::Output, 0);
     }
     let found = planner::useful(file, k);
     let verdict = found.verdict;
     keep_useful(found, out);
-    answer(verdict)
+    answers::answer(verdict, 0)
 }
 
 // The loaded lines of a region and its length, in 72 bytes.
@@ -35,12 +35,12 @@ pub extern "C" fn probe_region(file: &[u8], a: usize, b: usize, out: &mut [u8]) 
     ensures { λ _. ⌜ now (out .exit) ≡ regionLeft (now (file .entry)) a b (now (out .entry)) ⌝ }
 {
     if out.len() != 72 {
-        return refused(Refusal::Output);
+        return answers::refused(Refusal::Output, 0);
     }
     let found = planner::region(file, a, b);
     let verdict = found.verdict;
     keep_region(found, out);
-    answer(verdict)
+    answers::answer(verdict, 0)
 }
 
 // Leaves accepted lines in the bytes.
@@ -86,23 +86,4 @@ fn put_lines(lines: LineSet, out: &mut [u8])
         block::put_u64(out, 8 * w, lines.words[w]);
         w += 1;
     }
-}
-
-// What a call returns: 0, or the refusal.
-fn answer(verdict: Verdict) -> u32
-    requires { ⌜ ((x : Refusal) → verdict ≡ Verdict.Refused x → place x ≤ 97) ⌝ }
-    ensures { λ r. ⌜ r ≡ returned verdict ⌝ }
-{
-    match verdict {
-        Verdict::Accepted => 0,
-        Verdict::Refused(refusal) => refused(refusal),
-    }
-}
-
-// What a refusal returns.
-fn refused(refusal: Refusal) -> u32
-    requires { ⌜ place refusal ≤ 97 ⌝ }
-    ensures { λ r. ⌜ r ≡ number refusal * 65536 + place refusal ⌝ }
-{
-    planner::refusal_number(refusal) * 65536 + planner::refusal_place(refusal) as u32
 }

@@ -5,7 +5,7 @@ ghost use mathlib.Core.List.{_++_};
 ghost use Prim.Native.Nat.{_+_, _-_, _*_, _^_, _<_, _≤_};
 ghost use lib.Dec.{eqb, leb};
 ghost use lib.ListN.{length, getD, take, drop};
-ghost use Rattle.model.specs.Answers.{onAccepted, refusedAt};
+ghost use Rattle.model.specs.Answers.{refusedAt};
 ghost use Rattle.model.specs.Task.{blockCount};
 ghost use Rattle.model.specs.Lines.{blockAt};
 ghost use Rattle.block.specs.Bytes.{le, field};
@@ -23,17 +23,7 @@ pub fn check(file: &[u8]) -> Verdict
     }
     let checksums = check_checksums(file);
     let header = check_header(block_at(file, 0));
-    earlier(checksums, earlier(header, check_blocks(file)))
-}
-
-// The earlier of two answers decides.
-fn earlier(first: Verdict, second: Verdict) -> Verdict
-    ensures { λ r. ⌜ r ≡ onAccepted first second first ⌝ }
-{
-    match first {
-        Verdict::Refused(why) => Verdict::Refused(why),
-        Verdict::Accepted => second,
-    }
+    answers::earlier(checksums, answers::earlier(header, check_blocks(file)))
 }
 
 // Whole blocks, from 1 to 97.

@@ -3,35 +3,11 @@ use libc::STDOUT_FILENO;
 use model::Refusal;
 use model::Verdict;
 
-fn number(why: Refusal) -> u64 {
-    match why {
-        Refusal::Length => 1,
-        Refusal::Checksum(_) => 2,
-        Refusal::Header => 3,
-        Refusal::BlockCount => 4,
-        Refusal::Block(_) => 5,
-        Refusal::NoPlacement => 6,
-        Refusal::Argument(_) => 7,
-        Refusal::AboveLimit(_) => 8,
-        Refusal::Output => 9,
-    }
-}
-
-fn place(why: Refusal) -> usize {
-    match why {
-        Refusal::Checksum(k) => k,
-        Refusal::Block(k) => k,
-        Refusal::Argument(i) => i,
-        Refusal::AboveLimit(i) => i,
-        _ => 0,
-    }
-}
-
 fn print_refusal(why: Refusal) {
     io::write_all(STDOUT_FILENO, b" refused ");
-    io::print_decimal(STDOUT_FILENO, number(why));
+    io::print_decimal(STDOUT_FILENO, answers::refusal_number(why) as u64);
     io::write_all(STDOUT_FILENO, b" at ");
-    io::print_decimal(STDOUT_FILENO, place(why) as u64);
+    io::print_decimal(STDOUT_FILENO, answers::refusal_place(why) as u64);
     io::write_all(STDOUT_FILENO, b"\n");
 }
 

@@ -1,11 +1,11 @@
 -- `probe::probe_region` meets its contract: 9 for the bytes' length, and else what the planner answered.
 -- Assumes nothing.
-use mathlib.Core.Path.{refl}
+use mathlib.Core.Path.{refl, _∙_}
 use native.Mathlib.Omega.{arith}
 use lib.ListN.{length}
 use borrow.Author.Tests.{eq-eqb, ne-eqb}
 use Rattle.probe.specs.Calls.{regionReturned, regionLeft}
-use Rattle.probe.proofs.Answers.{region-place}
+use Rattle.probe.proofs.Answers.{unshifted, region-place}
 use borrow.Author.Needs.{needs}
 use Rattle.probe.proofs.probe_region.Statement.{statement}
 use Rattle.probe.proofs.probe_region.Tie as tie
@@ -26,7 +26,7 @@ keep-region-requires c κs = search needs
 answer-requires : tie.Need-answer-requires
 answer-requires c κs =
     let start = c .before .before .before .before .before .before .before .before in
-    rw (c .before .before .before .before .region .ensures .0) (region-place (start .args .file .now) (start .args .a) (start .args .b))
+    (rw (c .before .before .before .before .region .ensures .0) (region-place (start .args .file .now) (start .args .a) (start .args .b)), omega arith)
 
 same-length : tie.Need-same-length
 same-length c = search needs
@@ -35,9 +35,10 @@ returns-2 : tie.Need-returns-2
 unfolding regionReturned regionLeft
 returns-2 c =
     let start = c .before .before .before .before .before .before .before .before .before in
-    let answer = c .before .before .before .before .before .region .ensures in
+    let found = c .before .before .before .before .before .region in
+    let answer = found .ensures in
     let left = rw (answer .0, answer .1, answer .2) at (c .before .before .before .keep-region .ensures) in
-    rw (eq-eqb (length (start .args .out .now)) 72 (omega arith)) (rw (answer .0) at (c .answer .ensures), left)
+    rw (eq-eqb (length (start .args .out .now)) 72 (omega arith)) (rw (answer .0) at (c .answer .ensures ∙ unshifted (found .result .verdict)), left)
 
 pub probe-region-spec : {M : Type 1} → statement M
 probe-region-spec =

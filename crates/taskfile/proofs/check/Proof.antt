@@ -7,7 +7,7 @@ use native.Mathlib.Omega.{arith}
 use lib.ListN.{length}
 use borrow.Author.Needs.{needs}
 use borrow.Author.Tests.{not-true, not-false}
-use Rattle.model.specs.Answers.{onAccepted, refusedAt}
+use Rattle.model.specs.Answers.{refusedAt, andThen}
 use Rattle.model.specs.declared.Place.{Place}
 use Rattle.model.specs.declared.Place.the-variants.{Nowhere, At}
 use Rattle.model.specs.declared.Refusal.the-variants.{Checksum, Header}
@@ -22,12 +22,12 @@ use Rattle.taskfile.proofs.check.Tie as tie
 
 -- the answers of two rows, and what comes after them
 rows : (sum : Place) (head : Bool) (sums header late second answer : Verdict) → sums ≡ refusedAt sum Checksum Accepted
-    → header ≡ cond head Accepted (Refused Header) → second ≡ onAccepted header late header → answer ≡ onAccepted sums second sums
+    → header ≡ cond head Accepted (Refused Header) → second ≡ andThen header late → answer ≡ andThen sums second
     → answer ≡ refusedAt sum Checksum (cond head late (Refused Header))
 rows sum head sums header late second answer s h b a = rw (a, s, b, h) (decided sum head)
   where
     decided : (p : Place) (t : Bool)
-        → onAccepted (refusedAt p Checksum Accepted) (onAccepted (cond t Accepted (Refused Header)) late (cond t Accepted (Refused Header))) (refusedAt p Checksum Accepted)
+        → andThen (refusedAt p Checksum Accepted) (andThen (cond t Accepted (Refused Header)) late)
         ≡ refusedAt p Checksum (cond t late (Refused Header))
     decided Nowhere true = refl
     decided Nowhere false = refl

@@ -1,8 +1,8 @@
--- `probe::answer` meets its contract, by the verdict's two cases.
+-- `answers::answer` meets its contract, by the verdict's two cases.
 -- Assumes nothing.
 use borrow.Author.Needs.{needs}
-use Rattle.probe.proofs.answer.Statement.{statement}
-use Rattle.probe.proofs.answer.Tie as tie
+use Rattle.answers.proofs.answer.Statement.{statement}
+use Rattle.answers.proofs.answer.Tie as tie
 
 enum-told : tie.Need-enum-told
 enum-told c = search needs
@@ -11,7 +11,9 @@ enum-known-verdict : tie.Need-enum-known-verdict
 enum-known-verdict c = search needs
 
 refused-requires : tie.Need-refused-requires
-refused-requires c κs = c .before .before .before .pre _ (c .before .verdict .given .1)
+refused-requires c κs =
+    let start = c .before .before .before in
+    (start .pre .0 _ (c .before .verdict .given .1), start .pre .1)
 
 returns : tie.Need-returns
 returns c = search needs

@@ -1,10 +1,10 @@
--- `firmware::refused` meets its contract: numbers are at most 9 and places at most 194, so the sum fits a u32.
+-- `answers::refused` meets its contract: numbers are at most 9 and places at most 194, so the sum fits a u32.
 -- Assumes nothing.
 use native.Mathlib.Omega.{arith}
 use Rattle.model.proofs.Places.{number-most}
 use borrow.Author.Needs.{needs}
-use Rattle.firmware.proofs.refused.Statement.{statement}
-use Rattle.firmware.proofs.refused.Tie as tie
+use Rattle.answers.proofs.refused.Statement.{statement}
+use Rattle.answers.proofs.refused.Tie as tie
 
 refusal-number-requires : tie.Need-refusal-number-requires
 refusal-number-requires c κs = search needs

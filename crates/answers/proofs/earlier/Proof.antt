@@ -1,8 +1,8 @@
--- `planner::earlier` meets its contract, by the first verdict's two cases.
+-- `answers::earlier` meets its contract, by the first verdict's two cases.
 -- Assumes nothing.
 use borrow.Author.Needs.{needs}
-use Rattle.planner.proofs.earlier.Statement.{statement}
-use Rattle.planner.proofs.earlier.Tie as tie
+use Rattle.answers.proofs.earlier.Statement.{statement}
+use Rattle.answers.proofs.earlier.Tie as tie
 
 enum-told : tie.Need-enum-told
 enum-told c = search needs

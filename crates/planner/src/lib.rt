@@ -14,6 +14,7 @@ use model::Plan;
 use model::Refusal;
 use model::Verdict;
 use planblock::PlanRead;
+use plans::FilePlan;
 use regions::Price;
 
 // The useful lines at an edge.
@@ -27,12 +28,6 @@ pub struct RegionLines {
     pub verdict: Verdict,
     pub loaded: LineSet,
     pub length: u64,
-}
-
-// A plan of least cost.
-pub struct LeastPlan {
-    pub verdict: Verdict,
-    pub plan: Plan,
 }
 
 // The plan of the points of a plan block; `unread` says that the refusal is the block's own.
@@ -160,53 +155,13 @@ pub fn price_block(file: &[u8], block: &[u8]) -> BlockPrice
     let all = all_lines(file);
     let useful = all.useful;
     let accessed = all.accessed;
-    price_points(file, &useful, &accessed, all.evicted, read.plan)
-}
-
-// The plan of the points that a plan holds, from the lines of the file's edges.
-fn price_points(
-    file: &[u8],
-    useful: &[u64; 520],
-    accessed: &[u64; 520],
-    evicted: LineSet,
-    first: Plan,
-) -> BlockPrice
-    requires { ⌜ Ready (now file) (now useful) (now accessed) evicted ⌝ }
-    requires { ⌜ (first .count ≤ 63) × (drop (first .count) (first .points) ≡ replicate (64 - first .count) 0) ⌝ }
-    ensures { λ r. ⌜ (r .verdict ≡ pricing (taskOf (now (file .entry))) (chosen first)) × (r .unread ≡ false) × (r .plan ≡ onAccepted (pricing (taskOf (now (file .entry))) (chosen first)) (planFor (taskOf (now (file .entry))) (chosen first)) noPlan) ⌝ }
-{
-    let points = first.points;
-    let count = first.count as usize;
-    let price = regions::price_list(file, useful, accessed, evicted, &points[..count]);
-    let verdict = price.verdict;
-    let Verdict::Accepted = verdict else {
-        return no_block_price(verdict, false);
-    };
+    let priced = plans::price_points(file, &useful, &accessed, all.evicted, read.plan);
+    let verdict = priced.verdict;
+    let plan = priced.plan;
     BlockPrice {
-        verdict: Verdict::Accepted,
+        verdict,
         unread: false,
-        plan: plan_of(
-            taskfile::block_count(file),
-            taskfile::id(file),
-            first,
-            price,
-        ),
-    }
-}
-
-// The plan of another plan's points: N and id are the file's.
-fn plan_of(blocks: usize, id: u32, first: Plan, price: Price) -> Plan
-    requires { ⌜ (blocks ≤ 64) × (price .lines < 65536) ⌝ }
-    ensures { λ r. ⌜ r ≡ record { blocks = blocks; id = id; count = first .count; lines = price .lines; cost = price .cost; points = first .points } ⌝ }
-{
-    let points = first.points;
-    Plan {
-        blocks: blocks as u16,
-        id,
-        count: first.count,
-        lines: price.lines as u16,
-        cost: price.cost,
-        points,
+        plan,
     }
 }
 
@@ -214,7 +169,7 @@ fn plan_of(blocks: usize, id: u32, first: Plan, price: Price) -> Plan
 fn no_block_price(verdict: Verdict, unread: bool) -> BlockPrice
     ensures { λ r. ⌜ (r .verdict ≡ verdict) × (r .unread ≡ unread) × (r .plan ≡ noPlan) ⌝ }
 {
-    let none = no_plan(verdict);
+    let none = plans::no_plan(verdict);
     let plan = none.plan;
     BlockPrice {
         verdict,
@@ -224,17 +179,17 @@ fn no_block_price(verdict: Verdict, unread: bool) -> BlockPrice
 }
 
 // A plan whose list fits and costs least.
-pub fn plan(file: &[u8]) -> LeastPlan
+pub fn plan(file: &[u8]) -> FilePlan
     ensures { λ r. ⌜ PlanAnswer (now (file .entry)) (r .verdict) (r .plan) ⌝ }
 {
     let checked = taskfile::check(file);
     let Verdict::Accepted = checked else {
-        return no_plan(checked);
+        return plans::no_plan(checked);
     };
     let all = all_lines(file);
     let useful = all.useful;
     let accessed = all.accessed;
-    plan_regions(file, &useful, &accessed, all.evicted)
+    plans::least_plan(file, &useful, &accessed, all.evicted)
 }
 
 // Stores a plan in a lent block.
@@ -251,54 +206,4 @@ pub fn read(block: &[u8]) -> PlanRead
     ensures { λ r. ⌜ r .plan ≡ onAccepted (readVerdict (now (block .entry))) (planOf (now (block .entry))) noPlan ⌝ }
 {
     planblock::read(block)
-}
-
-// The plan of an accepted file, from the lines of its edges.
-fn plan_regions(
-    file: &[u8],
-    useful: &[u64; 520],
-    accessed: &[u64; 520],
-    evicted: LineSet,
-) -> LeastPlan
-    requires { ⌜ Ready (now file) (now useful) (now accessed) evicted ⌝ }
-    ensures { λ r. ⌜ Planned (taskOf (now (file .entry))) (r .verdict) (r .plan) ⌝ }
-{
-    let mut table = [placement::NONE; 4096];
-    regions::fill_table(file, useful, accessed, evicted, &mut table);
-    let n = taskfile::block_count(file);
-    let placed = placement::place(&table, n);
-    let count = placed.count;
-    let points = placed.points;
-    if !placed.found {
-        return no_plan(Verdict::Refused(Refusal::NoPlacement));
-    }
-    let price = regions::price_list(file, useful, accessed, evicted, &points[..count]);
-    LeastPlan {
-        verdict: Verdict::Accepted,
-        plan: Plan {
-            blocks: n as u16,
-            id: taskfile::id(file),
-            count: count as u16,
-            lines: price.lines as u16,
-            cost: price.cost,
-            points,
-        },
-    }
-}
-
-// What is answered where no plan is.
-fn no_plan(verdict: Verdict) -> LeastPlan
-    ensures { λ r. ⌜ (r .verdict ≡ verdict) × (r .plan ≡ noPlan) ⌝ }
-{
-    LeastPlan {
-        verdict,
-        plan: Plan {
-            blocks: 0,
-            id: 0,
-            count: 0,
-            lines: 0,
-            cost: 0,
-            points: [0; 64],
-        },
-    }
 }

@@ -30,13 +30,13 @@ returns c =
 all-lines-requires : tie.Need-all-lines-requires
 all-lines-requires c κs = sym (c .before .before .check .ensures) ∙ c .enum-told .given .1
 
-plan-regions-requires : tie.Need-plan-regions-requires
-plan-regions-requires c κs = search needs
+least-plan-requires : tie.Need-least-plan-requires
+least-plan-requires c κs = search needs
 
 returns-2 : tie.Need-returns-2
 returns-2 c =
     let accepted = sym (c .before .before .before .before .before .before .before .before .check .ensures) ∙ c .before .before .before .before .before .before .enum-told .given .1 in
-    record { refused = λ x e. absurd (never-both (sym accepted ∙ e)); planned = λ e. c .plan-regions .ensures }
+    record { refused = λ x e. absurd (never-both (sym accepted ∙ e)); planned = λ e. c .least-plan .ensures }
 
 pub plan-spec : {M : Type 1} → statement M
 plan-spec =
@@ -48,5 +48,5 @@ plan-spec =
     no-plan-requires
     returns
     all-lines-requires
-    plan-regions-requires
+    least-plan-requires
     returns-2)

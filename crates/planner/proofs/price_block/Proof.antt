@@ -1,17 +1,34 @@
 -- `planner::price_block` meets its contract: the first refusal of the file and the block, or the price of the block's points.
 -- Assumes nothing.
-use mathlib.Core.Path.{sym, _∙_}
-use Rattle.model.specs.Answers.{pricing}
+use mathlib.Core.Path.{_≡_, refl, sym, _∙_}
+use mathlib.Core.Bool.{not, _&&_}
+use Rattle.model.specs.Answers.{accepted, andThen, pricing}
 use Rattle.model.specs.Planning.{chosen}
+use Rattle.model.specs.declared.Refusal.{Refusal}
+use Rattle.model.specs.declared.Verdict.{Verdict}
+use Rattle.model.specs.declared.Verdict.the-variants.{Accepted, Refused}
+use Rattle.model.proofs.Verdicts.{never-both}
 use Rattle.taskfile.specs.File.{verdict, taskOf}
 use Rattle.planblock.specs.Plans.{readVerdict, planOf}
 use Rattle.planblock.proofs.Verdicts.{count-accepted}
 use Rattle.planblock.proofs.Roundtrip.{store-back, zeros-after}
 use Rattle.planner.specs.Calls.{blockVerdict, blockRefused, blockPlan}
-use Rattle.planner.proofs.Plans.{before-refused, before-accepted}
 use borrow.Author.Needs.{needs}
 use Rattle.planner.proofs.price_block.Statement.{statement}
 use Rattle.planner.proofs.price_block.Tie as tie
+
+-- two verdicts before a third
+
+before-refused : (u v w : Verdict) (x : Refusal) → andThen u v ≡ Refused x
+    → (andThen u (andThen v w) ≡ Refused x) × ((accepted u && not (accepted v)) ≡ accepted u)
+before-refused Accepted Accepted w x e = absurd (never-both e)
+before-refused Accepted (Refused y) w x e = (e, refl)
+before-refused (Refused y) v w x e = (e, refl)
+
+before-accepted : (u v : Verdict) → andThen u v ≡ Accepted → (u ≡ Accepted) × (v ≡ Accepted)
+before-accepted Accepted Accepted e = (refl, refl)
+before-accepted Accepted (Refused y) e = absurd (never-both (sym e))
+before-accepted (Refused y) v e = absurd (never-both (sym e))
 
 check-requires : tie.Need-check-requires
 check-requires c κs = search needs
@@ -74,15 +91,16 @@ price-points-requires c κs =
 returns-2 : tie.Need-returns-2
 unfolding blockVerdict blockRefused blockPlan
 returns-2 c =
-    let start = c .before .before .before .before .before .before .before .before .before .before .before .before .before in
+    let priced = c .before in
+    let start = priced .before .before .before .before .before .before .before .before .before .before .before .before .before in
     let file = start .args .file .now in
     let block = start .args .block .now in
-    let check = c .before .before .before .before .before .before .before .before .before .before .check .ensures in
-    let read = c .before .before .before .before .before .before .before .before .before .read .ensures in
-    let earlier = rw (check, read .0) at (sym (c .before .before .before .before .before .before .before .before .earlier .ensures) ∙ c .before .before .before .before .before .before .enum-told .given .1) in
+    let check = priced .before .before .before .before .before .before .before .before .before .before .check .ensures in
+    let read = priced .before .before .before .before .before .before .before .before .before .read .ensures in
+    let earlier = rw (check, read .0) at (sym (priced .before .before .before .before .before .before .before .before .earlier .ensures) ∙ priced .before .before .before .before .before .before .enum-told .given .1) in
     let both = before-accepted (verdict file) (readVerdict block) earlier in
-    let answers = rw (read .1, both .1) at (c .price-points .ensures) in
-    rw (both .0, both .1) answers
+    let answers = rw (read .1, both .1) at (priced .price-points .ensures) in
+    rw (both .0, both .1) (answers .0, refl, answers .1)
 
 pub price-block-spec : {M : Type 1} → statement M
 price-block-spec =

@@ -2,16 +2,15 @@
 -- Assumes nothing.
 use Prim.Native.Nat.{ℕ, _-_, _≤_, _<_}
 use mathlib.Core.Path.{_≡_, refl, sym, ap, _∙_}
-use mathlib.Core.Bool.{true, false, not, _&&_}
+use mathlib.Core.Bool.{true, false}
 use mathlib.Core.Logic.{inl, inr}
 use mathlib.Core.List.{List, _++_}
 use native.Mathlib.Omega.{arith}
 use lib.ListN.{length, take, drop, replicate, take-append-drop, length-drop, length-replicate, length-take}
 use Rattle.model.specs.Task.{Task, blockCount}
 use Rattle.model.specs.Regions.{regionFits, regionCost, lines, cost, BestList, NoPlacementFits}
-use Rattle.model.specs.Answers.{accepted, andThen, pricing}
+use Rattle.model.specs.Answers.{pricing}
 use Rattle.model.specs.Planning.{planFor, noPlan, Planned}
-use Rattle.model.specs.declared.Refusal.{Refusal}
 use Rattle.model.specs.declared.Refusal.the-variants.{NoPlacement}
 use Rattle.model.specs.declared.Verdict.{Verdict}
 use Rattle.model.specs.declared.Verdict.the-variants.{Accepted, Refused}
@@ -21,19 +20,6 @@ use Rattle.placement.specs.Table.{Holds, Placed}
 use Rattle.placement.specs.declared.Placement.{Placement}
 use Rattle.regions.specs.Answers.{Prices}
 use Rattle.regions.specs.declared.Price.{Price}
-
--- two verdicts before a third
-
-pub before-refused : (u v w : Verdict) (x : Refusal) → andThen u v ≡ Refused x
-    → (andThen u (andThen v w) ≡ Refused x) × ((accepted u && not (accepted v)) ≡ accepted u)
-before-refused Accepted Accepted w x e = absurd (never-both e)
-before-refused Accepted (Refused y) w x e = (e, refl)
-before-refused (Refused y) v w x e = (e, refl)
-
-pub before-accepted : (u v : Verdict) → andThen u v ≡ Accepted → (u ≡ Accepted) × (v ≡ Accepted)
-before-accepted Accepted Accepted e = (refl, refl)
-before-accepted Accepted (Refused y) e = absurd (never-both (sym e))
-before-accepted (Refused y) v e = absurd (never-both (sym e))
 
 -- the first points of an array, zeros after them, and their price: the plan that follows from the list
 module _ (count : ℕ) (points : List ℕ) (few : count ≤ 63) (zeros : drop count points ≡ replicate (64 - count) 0) where

@@ -1,12 +1,12 @@
--- `planner::price_points` meets its contract: the price of the list, and the plan that follows from it.
+-- `plans::price_points` meets its contract: the price of the list, and the plan that follows from it.
 -- Assumes nothing.
 use mathlib.Core.Path.{refl, sym, _∙_}
 use native.Mathlib.Omega.{arith}
 use Rattle.taskfile.specs.File.{taskOf}
-use Rattle.planner.proofs.Plans.{points-long, count-is, lines-fit, follows}
+use Rattle.plans.proofs.Plans.{points-long, count-is, lines-fit, follows}
 use borrow.Author.Needs.{needs}
-use Rattle.planner.proofs.price_points.Statement.{statement}
-use Rattle.planner.proofs.price_points.Tie as tie
+use Rattle.plans.proofs.price_points.Statement.{statement}
+use Rattle.plans.proofs.price_points.Tie as tie
 
 cast-count : tie.Need-cast-count
 cast-count c = search needs
@@ -26,15 +26,15 @@ enum-told c = search needs
 enum-told-2 : tie.Need-enum-told-2
 enum-told-2 c = search needs
 
-no-block-price-requires : tie.Need-no-block-price-requires
-no-block-price-requires c κs = search needs
+no-plan-requires : tie.Need-no-plan-requires
+no-plan-requires c κs = search needs
 
 returns : tie.Need-returns
 returns c =
     let price = c .before .before .before .price-list in
     let told = c .before .enum-told2 .given .1 in
-    let answers = c .no-block-price .ensures in
-    rw (answers .0, answers .1, answers .2, ← price .ensures .verdict, told) (refl, refl, refl)
+    let answers = c .no-plan .ensures in
+    rw (answers .0, answers .1, ← price .ensures .verdict, told) (refl, refl)
 
 block-count-requires : tie.Need-block-count-requires
 block-count-requires c κs = search needs
@@ -60,7 +60,7 @@ returns-2 c =
     let t = taskOf (start .args .file .now) in
     let accepted = sym (price .ensures .verdict) ∙ c .before .before .before .enum-told .given .1 in
     rw (accepted, c .plan-of .ensures, c .before .before .block-count .ensures .0, c .before .id .ensures)
-    (refl, refl, follows (first .count) (first .points) (search needs) (search needs) t accepted (price .result) (price .ensures))
+    (refl, follows (first .count) (first .points) (search needs) (search needs) t accepted (price .result) (price .ensures))
 
 pub price-points-spec : {M : Type 1} → statement M
 price-points-spec =
@@ -72,7 +72,7 @@ price-points-spec =
     price-list-requires
     enum-told
     enum-told-2
-    no-block-price-requires
+    no-plan-requires
     returns
     block-count-requires
     id-requires

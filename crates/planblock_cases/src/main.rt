@@ -1,7 +1,6 @@
 // Plan blocks by example: what storing and reading answer, a line for each case.
 use libc::STDOUT_FILENO;
 use model::Plan;
-use model::Refusal;
 use model::Verdict;
 ghost use mathlib.Core.Path.{_≡_};
 ghost use Prim.Native.Nat.{_≤_, _<_};

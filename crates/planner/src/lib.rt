@@ -1,11 +1,8 @@
 // The planner's calls. Each takes any bytes and numbers, and answers a value or a refusal.
-ghost use mathlib.Core.Bool.{false};
 ghost use mathlib.Core.Path.{_≡_};
-ghost use lib.ListN.{length, drop, replicate};
-ghost use Prim.Native.Nat.{_-_, _<_, _≤_};
-ghost use Rattle.model.specs.Answers.{onAccepted, pricing};
-ghost use Rattle.model.specs.Planning.{chosen, planFor, noPlan, Planned};
-ghost use Rattle.taskfile.specs.File.{verdict, taskOf};
+ghost use Rattle.model.specs.Answers.{onAccepted};
+ghost use Rattle.model.specs.Planning.{noPlan};
+ghost use Rattle.taskfile.specs.File.{verdict};
 ghost use Rattle.planblock.specs.Plans.{storeVerdict, stored, readVerdict, planOf};
 ghost use Rattle.regions.specs.Ready.{Ready};
 ghost use Rattle.planner.specs.Calls.{noWords, usefulVerdict, usefulWords, regionVerdict, loadedWords, lengthOf, priceVerdict, priceLines, priceCost, blockVerdict, blockRefused, blockPlan, PlanAnswer};
@@ -66,7 +63,7 @@ pub fn useful(file: &[u8], k: usize) -> UsefulLines
     reuse::edge_lines(file, &mut sets, &mut accessed);
     UsefulLines {
         verdict: Verdict::Accepted,
-        lines: regions::lines_at(&sets, k),
+        lines: edgesets::lines_at(&sets, k),
     }
 }
 

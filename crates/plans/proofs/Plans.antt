@@ -12,7 +12,6 @@ use Rattle.model.specs.Regions.{regionFits, regionCost, lines, cost, BestList, 
 use Rattle.model.specs.Answers.{pricing}
 use Rattle.model.specs.Planning.{planFor, noPlan, Planned}
 use Rattle.model.specs.declared.Refusal.the-variants.{NoPlacement}
-use Rattle.model.specs.declared.Verdict.{Verdict}
 use Rattle.model.specs.declared.Verdict.the-variants.{Accepted, Refused}
 use Rattle.model.proofs.Verdicts.{never-both}
 use Rattle.model.proofs.Regions.{fits-accepted, lines-most}

@@ -9,7 +9,7 @@ use Rattle.model.specs.declared.Verdict.the-variants.{Accepted}
 use Rattle.lineset.specs.Members.{members}
 use Rattle.lineset.specs.declared.LineSet.{LineSet}
 use Rattle.taskfile.specs.File.{verdict, taskOf}
-use Rattle.reuse.specs.Edges.{EdgeSets}
+use Rattle.edgesets.specs.Edges.{EdgeSets}
 
 -- U(k) for each edge k
 abbrev pub Useful : List ℕ → List ℕ → Type 0

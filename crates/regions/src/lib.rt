@@ -11,7 +11,6 @@ ghost use Rattle.model.specs.Regions.{regionFits, regionCost};
 ghost use Rattle.lineset.specs.Members.{members};
 ghost use Rattle.placement.specs.Table.{none, Holds};
 ghost use Rattle.taskfile.specs.File.{verdict, taskOf};
-ghost use Rattle.reuse.specs.Edges.{linesAt};
 ghost use Rattle.regions.specs.Ready.{Useful, Accessed, Evicted, Ready};
 ghost use Rattle.regions.specs.Answers.{Spans, Measures, NoneFrom, Row, Prices};
 use lineset::LineSet;
@@ -38,20 +37,6 @@ struct Run {
     to: usize,
     lines: LineSet,
     time: u64,
-}
-
-// The set of edge k.
-pub fn lines_at(sets: &[u64; 520], k: usize) -> LineSet
-    requires { ⌜ (length (now sets) ≡ 520) × (k < 65) ⌝ }
-    ensures { λ r. ⌜ ((c : ℕ) → members r c ≡ linesAt (now (sets .entry)) k c) ⌝ }
-{
-    let mut words = [0u64; 8];
-    let mut w = 0;
-    while w < 8 {
-        words[w] = sets[k * 8 + w];
-        w += 1;
-    }
-    LineSet { words }
 }
 
 // The loaded lines and the length of the region from edge a to edge b.
@@ -148,7 +133,7 @@ fn longer(file: &[u8], accessed: &[u64; 520], run: Run) -> Run
 {
     let to = run.to;
     let next = to + 1;
-    let lines = run.lines.union(lines_at(accessed, next));
+    let lines = run.lines.union(edgesets::lines_at(accessed, next));
     let time = run.time + taskfile::time(file, to) as u64;
     Run {
         from: run.from,
@@ -164,7 +149,9 @@ fn region_of(file: &[u8], useful: &[u64; 520], evicted: LineSet, run: Run) -> Re
     requires { ⌜ Spans (taskOf (now file)) run ⌝ }
     ensures { λ r. ⌜ Measures (taskOf (now (file .entry))) (run .from) (run .to) r ⌝ }
 {
-    let loaded = lines_at(useful, run.from).common(evicted).common(run.lines);
+    let loaded = edgesets::lines_at(useful, run.from)
+        .common(evicted)
+        .common(run.lines);
     let reloads = cost(file, loaded);
     let length = run.time + reloads;
     Region { loaded, length }

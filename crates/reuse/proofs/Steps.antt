@@ -18,8 +18,8 @@ use Rattle.model.specs.declared.Line.{Line}
 use Rattle.model.specs.declared.Line.the-variants.{Empty, Held}
 use Rattle.model.proofs.LineStates.{never-empty, useful-beyond, any-take}
 use Rattle.model.proofs.ReadOrder.{allReads, edge, take-edge, drop-edge, edge-rises, edge-end, edge-suc, read-at}
-use Rattle.reuse.specs.Edges.{linesAt, EdgeSets, toggledAt, EdgeToggles}
-use Rattle.reuse.proofs.Toggles.{xor-false, toggled-none, toggled-above}
+use Rattle.edgesets.specs.Edges.{linesAt, EdgeSets, toggledAt, EdgeToggles}
+use Rattle.edgesets.proofs.Toggles.{xor-false, toggled-none, toggled-above}
 use Rattle.reuse.proofs.Walk.{Kept, retold, since-le, other, this}
 
 pub record Walked (t : Task) (p : ℕ) (held : List Line) (since : List ℕ) (sets : List ℕ) : Type 0 where

@@ -16,7 +16,7 @@ use Rattle.model.specs.Lines.{lastRead, firstRead, anyRead, sameBlock}
 use Rattle.model.specs.declared.Line.{Line}
 use Rattle.model.specs.declared.Line.the-variants.{Empty, Held}
 use Rattle.model.proofs.LineStates.{never-empty, last-append, any-append, last-unread, first-none, first-append}
-use Rattle.reuse.proofs.Toggles.{xor-false, false-xor}
+use Rattle.edgesets.proofs.Toggles.{xor-false, false-xor}
 
 -- reads is every read in order, and edge k comes after the first `edge k` of them; on tells which numbers lie on the line
 module _ (reads : List ℕ) (edge : ℕ → ℕ) (on : ℕ → Bool) where

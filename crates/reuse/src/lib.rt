@@ -1,7 +1,7 @@
 // For an accepted file: the lines that are useful at each edge, those of them that each block reads, and those that the preempters evict.
 ghost use mathlib.Core.Bool.{false, _&&_, _||_, xor};
 ghost use mathlib.Core.Path.{_≡_};
-ghost use Prim.Native.Nat.{ℕ, _+_, _/_, _%_, _^_, _<_, _≤_};
+ghost use Prim.Native.Nat.{ℕ, _+_, _<_, _≤_};
 ghost use lib.Dec.{eqb, leb, ltb};
 ghost use lib.ListN.{length};
 ghost use Rattle.model.specs.Task.{blockCount};
@@ -10,33 +10,10 @@ ghost use Rattle.model.specs.Lines.{onLine, anyRead, accessedUseful, evicted, s
 ghost use Rattle.model.specs.Lines as Lines;
 ghost use Rattle.lineset.specs.Members.{members};
 ghost use Rattle.taskfile.specs.File.{verdict, header, taskOf, entryReads};
-ghost use Rattle.reuse.specs.Edges.{linesAt, EdgeSets, toggledAt, EdgeToggles};
+ghost use Rattle.edgesets.specs.Edges.{EdgeSets, toggledAt, EdgeToggles};
 use lineset::LineSet;
 use model::Line;
 use model::Verdict;
-
-// 2^32 divided by the number of lines.
-fn inverse_of(count: u32) -> u64
-    requires { ⌜ 1 ≤ count ⌝ }
-    ensures { λ r. ⌜ r ≡ 2 ^ 32 / count ⌝ }
-{
-    4294967296 / count as u64
-}
-
-// The line of a memory block, where there are count lines: its remainder by count, from a quotient that is right or one too small.
-fn line_of(number: u32, count: u32, inverse: u64) -> usize
-    requires { ⌜ (1 ≤ count) × (count ≤ 512) × (inverse ≡ 2 ^ 32 / count) ⌝ }
-    ensures { λ r. ⌜ (r ≡ number % count) × (r < 512) ⌝ }
-{
-    let lines = count as u64;
-    let quotient = (number as u64 * inverse) >> 32;
-    let rest = number as u64 - quotient * lines;
-    if rest < lines {
-        rest as usize
-    } else {
-        (rest - lines) as usize
-    }
-}
 
 // H: the lines that the preempters evict.
 pub fn evicted_lines(file: &[u8]) -> LineSet
@@ -62,11 +39,11 @@ fn add_reads(words: &mut [u64; 8], file: &[u8], k: usize)
     ensures { λ _. ⌜ ((d : ℕ) → inWords (now (words .exit)) d ≡ (inWords (now (words .entry)) d || anyRead (onLine (taskOf (now (file .entry))) d) (entryReads (now (file .entry)) k))) ⌝ }
 {
     let count = taskfile::line_count(file);
-    let inverse = inverse_of(count);
+    let inverse = cacheline::inverse_of(count);
     let reads = taskfile::read_count(file, k);
     let mut j = 0;
     while j < reads {
-        let c = line_of(taskfile::read(file, k, j), count, inverse);
+        let c = cacheline::line_of(taskfile::read(file, k, j), count, inverse);
         let w = c >> 6;
         words[w] = words[w] | (1 << (c & 63));
         j += 1;
@@ -79,21 +56,11 @@ pub fn edge_lines(file: &[u8], useful: &mut [u64; 520], accessed: &mut [u64; 520
     ensures { λ _. ⌜ EdgeSets (blockCount (taskOf (now (file .entry)))) (Lines.useful (taskOf (now (file .entry)))) (now (useful .exit)) ⌝ }
     ensures { λ _. ⌜ EdgeSets (blockCount (taskOf (now (file .entry)))) (accessedUseful (taskOf (now (file .entry)))) (now (accessed .exit)) ⌝ }
 {
-    clear(useful);
-    clear(accessed);
+    edgesets::clear(useful);
+    edgesets::clear(accessed);
     walk_reads(file, useful, accessed);
-    settle(useful);
-    keep_common(accessed, useful);
-}
-
-// Empties the sets of all edges.
-fn clear(sets: &mut [u64; 520])
-    requires { ⌜ length (now sets) ≡ 520 ⌝ }
-    ensures { λ _. ⌜ EdgeSets 64 (λ k c. false) (now (sets .exit)) ⌝ }
-{
-    for i in 0..520 {
-        sets[i] = 0;
-    }
+    edgesets::settle(useful);
+    edgesets::keep_common(accessed, useful);
 }
 
 // U(k) as toggles and T(k), in one walk over the reads: what each line holds, and the block that read it last.
@@ -105,7 +72,7 @@ fn walk_reads(file: &[u8], useful: &mut [u64; 520], accessed: &mut [u64; 520])
 {
     let blocks = taskfile::block_count(file);
     let count = taskfile::line_count(file);
-    let inverse = inverse_of(count);
+    let inverse = cacheline::inverse_of(count);
     let mut held = [Line::Empty; 512];
     let mut since = [0usize; 512];
     let mut i = 0;
@@ -115,10 +82,10 @@ fn walk_reads(file: &[u8], useful: &mut [u64; 520], accessed: &mut [u64; 520])
         let mut j = 0;
         while j < reads {
             let number = taskfile::read(file, k, j);
-            let c = line_of(number, count, inverse);
+            let c = cacheline::line_of(number, count, inverse);
             let line = held[c];
             add_reread(useful, line, number, c, since[c], k);
-            add_line(accessed, c, k);
+            edgesets::add_line(accessed, c, k);
             held[c] = Line::Held(number);
             since[c] = k;
             j += 1;
@@ -134,8 +101,8 @@ fn add_reread(sets: &mut [u64; 520], line: Line, number: u32, c: usize, from: us
     ensures { λ _. ⌜ ((k d : ℕ) → toggledAt (now (sets .exit)) k d ≡ xor (toggledAt (now (sets .entry)) k d) (sameBlock line (Line.Held number) && eqb d c && (leb from k && ltb k to))) ⌝ }
 {
     let again = holds(line, number);
-    toggle(sets, again, c, from);
-    toggle(sets, again, c, to);
+    edgesets::toggle(sets, again, c, from);
+    edgesets::toggle(sets, again, c, to);
 }
 
 // Whether a line holds this memory block.
@@ -145,47 +112,5 @@ fn holds(line: Line, number: u32) -> bool
     match line {
         Line::Empty => false,
         Line::Held(m) => m == number,
-    }
-}
-
-// Toggles line c at edge k and all later edges, if on.
-fn toggle(sets: &mut [u64; 520], on: bool, c: usize, k: usize)
-    requires { ⌜ (length (now sets) ≡ 520) × (c < 512) × (k < 65) ⌝ }
-    ensures { λ _. ⌜ length (now (sets .exit)) ≡ 520 ⌝ }
-    ensures { λ _. ⌜ ((e d : ℕ) → toggledAt (now (sets .exit)) e d ≡ xor (toggledAt (now (sets .entry)) e d) (on && eqb d c && leb k e)) ⌝ }
-{
-    let at = k * 8 + (c >> 6);
-    sets[at] = sets[at] ^ ((on as u64) << (c & 63));
-}
-
-// Adds line c to the set of edge k.
-fn add_line(sets: &mut [u64; 520], c: usize, k: usize)
-    requires { ⌜ (length (now sets) ≡ 520) × (c < 512) × (k < 65) ⌝ }
-    ensures { λ _. ⌜ length (now (sets .exit)) ≡ 520 ⌝ }
-    ensures { λ _. ⌜ ((e d : ℕ) → linesAt (now (sets .exit)) e d ≡ (linesAt (now (sets .entry)) e d || eqb d c && eqb e k)) ⌝ }
-{
-    let at = k * 8 + (c >> 6);
-    sets[at] = sets[at] | (1 << (c & 63));
-}
-
-// Makes the sets of all edges from their toggles: each edge's lines are those of the edge before it, toggled.
-fn settle(sets: &mut [u64; 520])
-    requires { ⌜ length (now sets) ≡ 520 ⌝ }
-    ensures { λ _. ⌜ length (now (sets .exit)) ≡ 520 ⌝ }
-    ensures { λ _. ⌜ ((k d : ℕ) → k < 65 → linesAt (now (sets .exit)) k d ≡ toggledAt (now (sets .entry)) k d) ⌝ }
-{
-    for i in 8..520 {
-        sets[i] = sets[i] ^ sets[i - 8];
-    }
-}
-
-// Keeps the lines that are in the other sets too.
-fn keep_common(sets: &mut [u64; 520], others: &[u64; 520])
-    requires { ⌜ (length (now sets) ≡ 520) × (length (now others) ≡ 520) ⌝ }
-    ensures { λ _. ⌜ length (now (sets .exit)) ≡ 520 ⌝ }
-    ensures { λ _. ⌜ ((k d : ℕ) → k < 65 → linesAt (now (sets .exit)) k d ≡ (linesAt (now (sets .entry)) k d && linesAt (now (others .entry)) k d)) ⌝ }
-{
-    for i in 0..520 {
-        sets[i] = sets[i] & others[i];
     }
 }

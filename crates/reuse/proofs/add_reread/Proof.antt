@@ -4,8 +4,8 @@ use mathlib.Core.Path.{ap, _∙_}
 use mathlib.Core.Bool.{Bool, _&&_, xor}
 use lib.Dec.{eqb, leb}
 use borrow.Author.Needs.{needs}
-use Rattle.reuse.proofs.Toggles.{toggled-twice}
-use Rattle.reuse.specs.Edges.{toggledAt}
+use Rattle.edgesets.proofs.Toggles.{toggled-twice}
+use Rattle.edgesets.specs.Edges.{toggledAt}
 use Rattle.reuse.proofs.add_reread.Statement.{statement}
 use Rattle.reuse.proofs.add_reread.Tie as tie
 

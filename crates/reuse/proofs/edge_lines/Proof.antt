@@ -10,7 +10,7 @@ use Rattle.model.specs.Task.{blockCount}
 use Rattle.model.specs.Lines.{useful, accessedUseful}
 use Rattle.taskfile.specs.File.{taskOf}
 use Rattle.taskfile.proofs.Accepted.{accepted, block-count}
-use Rattle.reuse.specs.Edges.{linesAt}
+use Rattle.edgesets.specs.Edges.{linesAt}
 use Rattle.reuse.proofs.edge_lines.Statement.{statement}
 use Rattle.reuse.proofs.edge_lines.Tie as tie
 

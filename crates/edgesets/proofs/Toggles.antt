@@ -16,8 +16,8 @@ use borrow.Author.Tests.{eq-eqb, ne-eqb, lt-leb, le-leb, le-ltb, lt-ltb}
 use mir.Val.{boolByte}
 use Rattle.model.specs.Sets.{digit}
 use Rattle.model.proofs.Digits.{digit-xor}
-use Rattle.reuse.specs.Edges.{linesAt, toggledAt}
-use Rattle.reuse.proofs.Edges.{line-at, no-line, edge-changed}
+use Rattle.edgesets.specs.Edges.{linesAt, toggledAt}
+use Rattle.edgesets.proofs.Edges.{line-at, no-line, edge-changed}
 
 -- ---- the exclusive or
 

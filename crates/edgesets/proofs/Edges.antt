@@ -17,7 +17,7 @@ use Rattle.model.specs.Sets.{digit, inWords}
 use Rattle.model.proofs.Digits.{digit-of-zero, digit-or, digit-and}
 use Rattle.model.proofs.Sets.{in-eight-above}
 use Rattle.lineset.proofs.Laws.{in-changed}
-use Rattle.reuse.specs.Edges.{wordsAt, linesAt, EdgeSets}
+use Rattle.edgesets.specs.Edges.{wordsAt, linesAt, EdgeSets}
 
 module _ (sets : List ℕ) (k w v : ℕ) (h : w < 8) where
   same-edge : wordsAt (set sets (k * 8 + w) v) k ≡ set (wordsAt sets k) w v

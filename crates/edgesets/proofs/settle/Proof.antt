@@ -1,28 +1,28 @@
--- `reuse::keep_common` meets its contract. The loop's invariant: the words passed are joined.
+-- `edgesets::settle` meets its contract. The loop's invariant: the words passed hold the lines of their edges.
 -- Assumes nothing.
 use Prim.Native.Nat.{_-_, _≤_}
-use mathlib.Core.Path.{refl}
 use native.Mathlib.Omega.{arith}
-use lib.Bits.{bitAnd}
-use Rattle.lineset.proofs.Laws.{Joined, joined-none, joined-more, joined-all}
-use Rattle.reuse.proofs.Edges.{in-common}
-use Rattle.reuse.proofs.keep_common.Statement.{statement}
-use Rattle.reuse.proofs.keep_common.Tie as tie
+use Rattle.edgesets.proofs.Toggles.{Settled, settled-none, settled-more, settled-all}
+use Rattle.edgesets.proofs.settle.Statement.{statement}
+use Rattle.edgesets.proofs.settle.Tie as tie
 
 abbrev Inv-loop : tie.InvT-loop
-Inv-loop sets₀ others i₀ sets i = (i ≤ 520) × Joined bitAnd 520 sets₀ others i sets
+Inv-loop sets₀ i₀ sets i = (8 ≤ i) × (i ≤ 520) × Settled sets₀ i sets
 
 abbrev μ-loop : tie.MeasureT-loop
-μ-loop sets₀ others i₀ sets i = 520 - i
+μ-loop sets₀ i₀ sets i = 520 - i
 
 loop-holds : tie.Need-loop-holds Inv-loop μ-loop
-loop-holds c = (omega arith, joined-none bitAnd 520 _ _ (c .pre .0))
+loop-holds c = (omega arith, omega arith, settled-none (c .args .sets .now) (c .pre))
 
 mul-sets : tie.Need-mul-sets Inv-loop μ-loop
 mul-sets c = omega arith
 
 element-copy-out-sets : tie.Need-element-copy-out-sets Inv-loop μ-loop
 element-copy-out-sets c = omega arith
+
+sub-sets : tie.Need-sub-sets Inv-loop μ-loop
+sub-sets c = omega arith
 
 mul-sets-2 : tie.Need-mul-sets-2 Inv-loop μ-loop
 mul-sets-2 c = omega arith
@@ -43,19 +43,17 @@ loop-less : tie.Need-loop-less Inv-loop μ-loop
 loop-less c = omega arith
 
 loop-again : tie.Need-loop-again Inv-loop μ-loop
-loop-again c = (omega arith, joined-more bitAnd 520 _ _ _ _ (omega arith) (c .before .before .before .loop .inv .1))
+loop-again c =
+    let l = c .before .before .before .loop in
+    (omega arith, omega arith, settled-more _ (l .i) (l .sets) (l .inv .0) (omega arith) (l .inv .2))
 
 returns : tie.Need-returns Inv-loop μ-loop
 returns c =
-    let start = c .before .before in
-    let l = c .before .loop in (
-      l .inv .1 .long,
-      in-common (start .args .sets .now) (start .args .others .now) (l .sets) (start .pre .0) (l .inv .1 .long)
-          (joined-all bitAnd 520 _ _ refl (start .pre .1) (l .i) (l .sets) (omega arith) (l .inv .1)),
-    )
+    let l = c .before .loop in
+    (l .inv .2 .long, settled-all _ (l .i) (l .sets) (c .before .before .pre) (omega arith) (l .inv .2))
 
-pub keep-common-spec : {M : Type 1} → statement M
-keep-common-spec =
+pub settle-spec : {M : Type 1} → statement M
+settle-spec =
     tie.close
     (tie.spec
     Inv-loop
@@ -63,6 +61,7 @@ keep-common-spec =
     loop-holds
     mul-sets
     element-copy-out-sets
+    sub-sets
     mul-sets-2
     element-copy-out-sets-2
     mul-sets-3

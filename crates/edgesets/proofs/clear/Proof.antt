@@ -1,4 +1,4 @@
--- `reuse::clear` meets its contract. The loop's invariant: the words passed are 0.
+-- `edgesets::clear` meets its contract. The loop's invariant: the words passed are 0.
 -- Assumes nothing.
 use Prim.Native.Nat.{ℕ, _-_, _≤_, _<_}
 use mathlib.Core.Path.{_≡_, _∙_}
@@ -6,9 +6,9 @@ use native.Mathlib.Omega.{arith}
 use lib.Seq.{getD-set-same, getD-set-other}
 use lib.ListN.{length, getD, length-set}
 use borrow.Author.Count.{below-more}
-use Rattle.reuse.proofs.Edges.{no-lines}
-use Rattle.reuse.proofs.clear.Statement.{statement}
-use Rattle.reuse.proofs.clear.Tie as tie
+use Rattle.edgesets.proofs.Edges.{no-lines}
+use Rattle.edgesets.proofs.clear.Statement.{statement}
+use Rattle.edgesets.proofs.clear.Tie as tie
 
 abbrev Inv-loop : tie.InvT-loop
 Inv-loop sets₀ i₀ sets i = (length sets ≡ 520) × (i ≤ 520) × ((e : ℕ) → e < i → getD sets e 0 ≡ 0)

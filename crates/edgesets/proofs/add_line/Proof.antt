@@ -1,12 +1,12 @@
--- `reuse::add_line` meets its contract: the line's digit is set in its word of edge k.
+-- `edgesets::add_line` meets its contract: the line's digit is set in its word of edge k.
 -- Assumes nothing.
 use mathlib.Core.Path.{_∙_}
 use lib.ListN.{length-set}
 use lib.Bits.{mask-lt}
 use borrow.Author.Needs.{needs}
-use Rattle.reuse.proofs.Edges.{edge-added}
-use Rattle.reuse.proofs.add_line.Statement.{statement}
-use Rattle.reuse.proofs.add_line.Tie as tie
+use Rattle.edgesets.proofs.Edges.{edge-added}
+use Rattle.edgesets.proofs.add_line.Statement.{statement}
+use Rattle.edgesets.proofs.add_line.Tie as tie
 
 mul-at : tie.Need-mul-at
 mul-at c = search needs

@@ -1,12 +1,12 @@
--- `reuse::toggle` meets its contract: the line's digit changes in its word of edge k, if on.
+-- `edgesets::toggle` meets its contract: the line's digit changes in its word of edge k, if on.
 -- Assumes nothing.
 use mathlib.Core.Path.{_∙_}
 use lib.ListN.{length-set}
 use lib.Bits.{mask-lt}
 use borrow.Author.Needs.{needs}
-use Rattle.reuse.proofs.Toggles.{edge-toggled}
-use Rattle.reuse.proofs.toggle.Statement.{statement}
-use Rattle.reuse.proofs.toggle.Tie as tie
+use Rattle.edgesets.proofs.Toggles.{edge-toggled}
+use Rattle.edgesets.proofs.toggle.Statement.{statement}
+use Rattle.edgesets.proofs.toggle.Tie as tie
 
 mul-at : tie.Need-mul-at
 mul-at c = search needs

@@ -1,9 +1,9 @@
--- `reuse::line_of` meets its contract: the remainder is what the quotient leaves, or that less count.
+-- `cacheline::line_of` meets its contract: the remainder is what the quotient leaves, or that less count.
 -- Assumes nothing.
 use native.Mathlib.Omega.{arith}
-use Rattle.reuse.proofs.Remainders.{product-fits, quotient-le, rest-lt, rest-below, rest-above}
-use Rattle.reuse.proofs.line_of.Statement.{statement}
-use Rattle.reuse.proofs.line_of.Tie as tie
+use Rattle.cacheline.proofs.Remainders.{product-fits, quotient-le, rest-lt, rest-below, rest-above}
+use Rattle.cacheline.proofs.line_of.Statement.{statement}
+use Rattle.cacheline.proofs.line_of.Tie as tie
 
 mul-quotient : tie.Need-mul-quotient
 mul-quotient c = omega (arith, product-fits (c .pre .0) (c .fits .number .fits) (c .pre .2))

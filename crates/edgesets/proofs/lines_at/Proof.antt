@@ -1,4 +1,4 @@
--- `regions::lines_at` meets its contract. The loop's invariant: the words below w are those of edge k.
+-- `edgesets::lines_at` meets its contract. The loop's invariant: the words below w are those of edge k.
 -- Assumes nothing.
 use Prim.Native.Nat.{ℕ, _+_, _-_, _*_, _≤_, _<_}
 use mathlib.Core.Path.{_≡_, refl, sym, ap, _∙_}
@@ -8,10 +8,10 @@ use borrow.Author.Count.{below-none, below-more}
 use lib.ListN.{length, getD, set, length-set}
 use lib.Seq.{ext-getD, getD-set-same, getD-set-other}
 use Rattle.model.specs.Sets.{inWords}
-use Rattle.reuse.specs.Edges.{wordsAt}
-use Rattle.reuse.proofs.Edges.{word-at, eight-at}
-use Rattle.regions.proofs.lines_at.Statement.{statement}
-use Rattle.regions.proofs.lines_at.Tie as tie
+use Rattle.edgesets.specs.Edges.{wordsAt}
+use Rattle.edgesets.proofs.Edges.{word-at, eight-at}
+use Rattle.edgesets.proofs.lines_at.Statement.{statement}
+use Rattle.edgesets.proofs.lines_at.Tie as tie
 
 module _ (sets : List ℕ) (k : ℕ) where
   -- the words below w

@@ -12,7 +12,7 @@ use model::Refusal;
 use model::Verdict;
 use planblock::PlanRead;
 use plans::FilePlan;
-use regions::Price;
+use prices::Price;
 
 // The useful lines at an edge.
 pub struct UsefulLines {
@@ -135,7 +135,7 @@ pub fn price(file: &[u8], points: &[u16]) -> Price
     let all = all_lines(file);
     let useful = all.useful;
     let accessed = all.accessed;
-    regions::price_list(file, &useful, &accessed, all.evicted, points)
+    prices::price_list(file, &useful, &accessed, all.evicted, points)
 }
 
 // The plan of the points of a plan block, with the file's N and id.

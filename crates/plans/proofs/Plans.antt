@@ -17,8 +17,8 @@ use Rattle.model.proofs.Verdicts.{never-both}
 use Rattle.model.proofs.Regions.{fits-accepted, lines-most}
 use Rattle.placement.specs.Table.{Holds, Placed}
 use Rattle.placement.specs.declared.Placement.{Placement}
-use Rattle.regions.specs.Answers.{Prices}
-use Rattle.regions.specs.declared.Price.{Price}
+use Rattle.prices.specs.Answers.{Prices}
+use Rattle.prices.specs.declared.Price.{Price}
 
 -- the first points of an array, zeros after them, and their price: the plan that follows from the list
 module _ (count : ℕ) (points : List ℕ) (few : count ≤ 63) (zeros : drop count points ≡ replicate (64 - count) 0) where

@@ -10,7 +10,7 @@ use lineset::LineSet;
 use model::Plan;
 use model::Refusal;
 use model::Verdict;
-use regions::Price;
+use prices::Price;
 
 // A plan of a file, or the refusal.
 pub struct FilePlan {
@@ -32,7 +32,7 @@ pub fn price_points(
 {
     let points = first.points;
     let count = first.count as usize;
-    let price = regions::price_list(file, useful, accessed, evicted, &points[..count]);
+    let price = prices::price_list(file, useful, accessed, evicted, &points[..count]);
     let verdict = price.verdict;
     let Verdict::Accepted = verdict else {
         return no_plan(verdict);
@@ -83,7 +83,7 @@ pub fn least_plan(
     if !placed.found {
         return no_plan(Verdict::Refused(Refusal::NoPlacement));
     }
-    let price = regions::price_list(file, useful, accessed, evicted, &points[..count]);
+    let price = prices::price_list(file, useful, accessed, evicted, &points[..count]);
     FilePlan {
         verdict: Verdict::Accepted,
         plan: Plan {

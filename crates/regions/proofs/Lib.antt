@@ -2,5 +2,3 @@ pub mod Widths
 pub mod Runs
 pub mod Measured
 pub mod Rows
-pub mod Points
-pub mod Pricing

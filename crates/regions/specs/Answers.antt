@@ -6,13 +6,11 @@ use mathlib.Core.List.{List}
 use lib.ListN.{length, getD}
 use Rattle.model.specs.Task.{Task, blockCount}
 use Rattle.model.specs.Lines.{accessedUseful}
-use Rattle.model.specs.Regions.{unionAfter, timeAfter, loaded, regionLength, regionFits, regionCost, lines, cost}
-use Rattle.model.specs.Answers.{pricing, onAccepted}
+use Rattle.model.specs.Regions.{unionAfter, timeAfter, loaded, regionLength, regionFits, regionCost}
 use Rattle.lineset.specs.Members.{members}
 use Rattle.placement.specs.Table.{none, entry, slot}
 use Rattle.regions.specs.declared.Run.{Run}
 use Rattle.regions.specs.declared.Region.{Region}
-use Rattle.regions.specs.declared.Price.{Price}
 
 -- a run of basic blocks: the union of their accessed useful lines, and the sum of their times
 pub record Spans (t : Task) (run : Run) : Type 0 where
@@ -37,9 +35,3 @@ pub record Row (t : Task) (a n : ℕ) (before after : List ℕ) : Type 0 where
   pub entries : (b : ℕ) → a < b → b ≤ n → getD after (slot a b) 0 ≡ entry (regionFits t a b) (regionCost t a b)
   pub bounded : (b : ℕ) → a < b → b ≤ n → regionFits t a b ≡ true → regionCost t a b < 2 ^ 56
   pub others : (i : ℕ) → ((b : ℕ) → a < b → b ≤ n → i ≡ slot a b → ⊥) → getD after i 0 ≡ getD before i 0
-
--- the price of the list of points ps
-pub record Prices (t : Task) (ps : List ℕ) (r : Price) : Type 0 where
-  pub verdict : r .verdict ≡ pricing t ps
-  pub lines : r .lines ≡ onAccepted (pricing t ps) (lines t ps) 0
-  pub cost : r .cost ≡ onAccepted (pricing t ps) (cost t ps) 0

@@ -1,34 +1,23 @@
-// The regions of an accepted file: the loaded lines and the length of one, the table of all of them for a placement, and the price of
-// a list of points.
+// The regions of an accepted file: the loaded lines and the length of one, and the table of all of them for a placement.
 ghost use mathlib.Core.Bool.{false};
 ghost use mathlib.Core.Path.{_≡_};
 ghost use Prim.Native.Nat.{ℕ, _+_, _*_, _^_, _<_, _≤_};
-ghost use lib.ListN.{length, getD, replicate};
+ghost use lib.ListN.{length, replicate};
 ghost use Rattle.model.specs.Sets.{size};
 ghost use Rattle.model.specs.Task.{blockCount};
-ghost use Rattle.model.specs.Lists.{wrongPoint};
 ghost use Rattle.model.specs.Regions.{regionFits, regionCost};
 ghost use Rattle.lineset.specs.Members.{members};
 ghost use Rattle.placement.specs.Table.{none, Holds};
 ghost use Rattle.taskfile.specs.File.{verdict, taskOf};
 ghost use Rattle.regions.specs.Ready.{Useful, Accessed, Evicted, Ready};
-ghost use Rattle.regions.specs.Answers.{Spans, Measures, NoneFrom, Row, Prices};
+ghost use Rattle.regions.specs.Answers.{Spans, Measures, NoneFrom, Row};
 use lineset::LineSet;
-use model::Place;
-use model::Refusal;
 use model::Verdict;
 
 // A region's loaded lines and its length.
 pub struct Region {
     pub loaded: LineSet,
     pub length: u64,
-}
-
-// What pricing a list answers: its lines and cost, or zeros with a refusal.
-pub struct Price {
-    pub verdict: Verdict,
-    pub lines: u64,
-    pub cost: u64,
 }
 
 // The basic blocks after edge `from` up to edge `to`: their accessed useful lines, and the sum of their times.
@@ -155,95 +144,4 @@ fn region_of(file: &[u8], useful: &[u64; 520], evicted: LineSet, run: Run) -> Re
     let reloads = cost(file, loaded);
     let length = run.time + reloads;
     Region { loaded, length }
-}
-
-// The lowest index at which a list of points of a task of n blocks is wrong.
-pub fn wrong_point(points: &[u16], n: usize) -> Place
-    ensures { λ r. ⌜ r ≡ wrongPoint n (now (points .entry)) ⌝ }
-{
-    let mut last = 0;
-    let mut i = 0;
-    while i < points.len() {
-        let point = points[i] as usize;
-        if point <= last || n <= point {
-            return Place::At(i);
-        }
-        last = point;
-        i += 1;
-    }
-    Place::Nowhere
-}
-
-// The price of a list of points: 7 at its lowest wrong point, then 8 at its lowest region above the limit.
-pub fn price_list(
-    file: &[u8],
-    useful: &[u64; 520],
-    accessed: &[u64; 520],
-    evicted: LineSet,
-    points: &[u16],
-) -> Price
-    requires { ⌜ Ready (now file) (now useful) (now accessed) evicted ⌝ }
-    ensures { λ r. ⌜ Prices (taskOf (now (file .entry))) (now (points .entry)) r ⌝ }
-{
-    match wrong_point(points, taskfile::block_count(file)) {
-        Place::At(i) => refused(Refusal::Argument(i)),
-        Place::Nowhere => price_regions(file, useful, accessed, evicted, points),
-    }
-}
-
-// The price of a well-formed list.
-fn price_regions(
-    file: &[u8],
-    useful: &[u64; 520],
-    accessed: &[u64; 520],
-    evicted: LineSet,
-    points: &[u16],
-) -> Price
-    requires { ⌜ Ready (now file) (now useful) (now accessed) evicted × (wrongPoint (blockCount (taskOf (now file))) (now points) ≡ Place.Nowhere) ⌝ }
-    ensures { λ r. ⌜ Prices (taskOf (now (file .entry))) (now (points .entry)) r ⌝ }
-{
-    let n = taskfile::block_count(file);
-    let limit = taskfile::limit(file) as u64;
-    let mut lines = 0u64;
-    let mut a = 0;
-    let mut i = 0;
-    while i <= points.len() {
-        let b = edge_after(points, i, n);
-        let region = region_between(file, useful, accessed, evicted, a, b);
-        if limit < region.length {
-            return refused(Refusal::AboveLimit(i));
-        }
-        lines += region.loaded.size() as u64;
-        a = b;
-        i += 1;
-    }
-    let reload = taskfile::reload(file) as u64;
-    let cost = reload * lines;
-    Price {
-        verdict: Verdict::Accepted,
-        lines,
-        cost,
-    }
-}
-
-// The edge at the end of region i: a point, or n after the last.
-fn edge_after(points: &[u16], i: usize, n: usize) -> usize
-    ensures { λ r. ⌜ r ≡ getD (now (points .entry)) i n ⌝ }
-{
-    if i < points.len() {
-        points[i] as usize
-    } else {
-        n
-    }
-}
-
-// What is answered of a list that is refused.
-fn refused(refusal: Refusal) -> Price
-    ensures { λ r. ⌜ r ≡ record { verdict = Verdict.Refused refusal; lines = 0; cost = 0 } ⌝ }
-{
-    Price {
-        verdict: Verdict::Refused(refusal),
-        lines: 0,
-        cost: 0,
-    }
 }

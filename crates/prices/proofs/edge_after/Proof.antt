@@ -1,4 +1,4 @@
--- `regions::edge_after` meets its contract: past the end of a list stands the default.
+-- `prices::edge_after` meets its contract: past the end of a list stands the default.
 -- Assumes nothing.
 use borrow.Author.Needs.{needs}
 use mathlib.Core.Path.{_≡_, refl, sym}
@@ -6,8 +6,8 @@ use mathlib.Core.List.{List, [], _∷_}
 use Prim.Native.Nat.{ℕ, zero, suc, _<_}
 use native.Mathlib.Omega.{arith}
 use lib.ListN.{length, getD, List·getD-eq-default}
-use Rattle.regions.proofs.edge_after.Statement.{statement}
-use Rattle.regions.proofs.edge_after.Tie as tie
+use Rattle.prices.proofs.edge_after.Statement.{statement}
+use Rattle.prices.proofs.edge_after.Tie as tie
 
 -- within a list the default does not matter
 any-default : (l : List ℕ) (i d e : ℕ) → i < length l → getD l i d ≡ getD l i e

@@ -1,4 +1,4 @@
--- `regions::price_regions` meets its contract. The loop's invariant: the regions passed are within the limit, and lines is the sum of what they reload.
+-- `prices::price_regions` meets its contract. The loop's invariant: the regions passed are within the limit, and lines is the sum of what they reload.
 -- Each point is above the last, so there are at most 64 regions. Assumes nothing.
 use Prim.Native.Nat.{ℕ, _+_, _-_, _*_, _≤_}
 use mathlib.Core.Path.{_≡_, ap, _∙_}
@@ -7,12 +7,12 @@ use borrow.Author.Needs.{needs}
 use lib.ListN.{length, getD}
 use Rattle.model.specs.Task.{blockCount}
 use Rattle.taskfile.specs.File.{taskOf}
 use Rattle.regions.proofs.Widths.{few-lines, cost-le}
 use Rattle.regions.proofs.Measured.{measured-lines, measured-within, measured-above}
-use Rattle.regions.proofs.Pricing.{Walked, walked-none, walked-edge, walked-more, walked-above, walked-end}
-use Rattle.regions.proofs.Pricing.{above-pricing, accepted-pricing, refused-prices, accepted-prices}
-use Rattle.regions.proofs.price_regions.Statement.{statement}
-use Rattle.regions.proofs.price_regions.Tie as tie
+use Rattle.prices.proofs.Pricing.{Walked, walked-none, walked-edge, walked-more, walked-above, walked-end}
+use Rattle.prices.proofs.Pricing.{above-pricing, accepted-pricing, refused-prices, accepted-prices}
+use Rattle.prices.proofs.price_regions.Statement.{statement}
+use Rattle.prices.proofs.price_regions.Tie as tie
 
 abbrev Inv-loop : tie.InvT-loop
 Inv-loop file useful accessed evicted points n limit lines₀ a₀ i₀ lines a i = Walked (taskOf file) points i a lines

@@ -22,8 +22,8 @@ use Rattle.model.specs.declared.Refusal.{Refusal}
 use Rattle.model.specs.declared.Refusal.the-variants.{Argument, AboveLimit}
 use Rattle.model.specs.declared.Verdict.the-variants.{Accepted, Refused}
 use Rattle.model.proofs.Regions.{cost-of-lines}
-use Rattle.regions.specs.Answers.{Prices}
-use Rattle.regions.proofs.Points.{wrongFrom, point-rising, points-end}
+use Rattle.prices.specs.Answers.{Prices}
+use Rattle.prices.proofs.Points.{wrongFrom, point-rising, points-end}
 
 -- the regions of a list from region i on, which starts at edge a
 pub regionsFrom : ℕ → List ℕ → ℕ → ℕ → List Region

@@ -1,4 +1,4 @@
--- `regions::price_list` meets its contract, by whether a point is wrong.
+-- `prices::price_list` meets its contract, by whether a point is wrong.
 -- Assumes nothing.
 use Prim.Native.Nat.{ℕ}
 use mathlib.Core.Path.{_≡_, sym, ap, _∙_}
@@ -6,9 +6,9 @@ use borrow.Author.Needs.{needs}
 use Rattle.model.specs.Task.{blockCount}
 use Rattle.model.specs.Lists.{wrongPoint}
 use Rattle.taskfile.specs.File.{taskOf}
-use Rattle.regions.proofs.Pricing.{wrong-pricing, refused-prices}
-use Rattle.regions.proofs.price_list.Statement.{statement}
-use Rattle.regions.proofs.price_list.Tie as tie
+use Rattle.prices.proofs.Pricing.{wrong-pricing, refused-prices}
+use Rattle.prices.proofs.price_list.Statement.{statement}
+use Rattle.prices.proofs.price_list.Tie as tie
 
 block-count-requires : tie.Need-block-count-requires
 block-count-requires c κs = search needs

@@ -1,0 +1,110 @@
+// For an accepted file: the price of a list of points.
+ghost use mathlib.Core.Path.{_≡_};
+ghost use lib.ListN.{getD};
+ghost use Rattle.model.specs.Task.{blockCount};
+ghost use Rattle.model.specs.Lists.{wrongPoint};
+ghost use Rattle.taskfile.specs.File.{taskOf};
+ghost use Rattle.regions.specs.Ready.{Ready};
+ghost use Rattle.prices.specs.Answers.{Prices};
+use lineset::LineSet;
+use model::Place;
+use model::Refusal;
+use model::Verdict;
+
+// What pricing a list answers: its lines and cost, or zeros with a refusal.
+pub struct Price {
+    pub verdict: Verdict,
+    pub lines: u64,
+    pub cost: u64,
+}
+
+// The lowest index at which a list of points of a task of n blocks is wrong.
+fn wrong_point(points: &[u16], n: usize) -> Place
+    ensures { λ r. ⌜ r ≡ wrongPoint n (now (points .entry)) ⌝ }
+{
+    let mut last = 0;
+    let mut i = 0;
+    while i < points.len() {
+        let point = points[i] as usize;
+        if point <= last || n <= point {
+            return Place::At(i);
+        }
+        last = point;
+        i += 1;
+    }
+    Place::Nowhere
+}
+
+// The price of a list of points: 7 at its lowest wrong point, then 8 at its lowest region above the limit.
+pub fn price_list(
+    file: &[u8],
+    useful: &[u64; 520],
+    accessed: &[u64; 520],
+    evicted: LineSet,
+    points: &[u16],
+) -> Price
+    requires { ⌜ Ready (now file) (now useful) (now accessed) evicted ⌝ }
+    ensures { λ r. ⌜ Prices (taskOf (now (file .entry))) (now (points .entry)) r ⌝ }
+{
+    match wrong_point(points, taskfile::block_count(file)) {
+        Place::At(i) => refused(Refusal::Argument(i)),
+        Place::Nowhere => price_regions(file, useful, accessed, evicted, points),
+    }
+}
+
+// The price of a well-formed list.
+fn price_regions(
+    file: &[u8],
+    useful: &[u64; 520],
+    accessed: &[u64; 520],
+    evicted: LineSet,
+    points: &[u16],
+) -> Price
+    requires { ⌜ Ready (now file) (now useful) (now accessed) evicted × (wrongPoint (blockCount (taskOf (now file))) (now points) ≡ Place.Nowhere) ⌝ }
+    ensures { λ r. ⌜ Prices (taskOf (now (file .entry))) (now (points .entry)) r ⌝ }
+{
+    let n = taskfile::block_count(file);
+    let limit = taskfile::limit(file) as u64;
+    let mut lines = 0u64;
+    let mut a = 0;
+    let mut i = 0;
+    while i <= points.len() {
+        let b = edge_after(points, i, n);
+        let region = regions::region_between(file, useful, accessed, evicted, a, b);
+        if limit < region.length {
+            return refused(Refusal::AboveLimit(i));
+        }
+        lines += region.loaded.size() as u64;
+        a = b;
+        i += 1;
+    }
+    let reload = taskfile::reload(file) as u64;
+    let cost = reload * lines;
+    Price {
+        verdict: Verdict::Accepted,
+        lines,
+        cost,
+    }
+}
+
+// The edge at the end of region i: a point, or n after the last.
+fn edge_after(points: &[u16], i: usize, n: usize) -> usize
+    ensures { λ r. ⌜ r ≡ getD (now (points .entry)) i n ⌝ }
+{
+    if i < points.len() {
+        points[i] as usize
+    } else {
+        n
+    }
+}
+
+// What is answered of a list that is refused.
+fn refused(refusal: Refusal) -> Price
+    ensures { λ r. ⌜ r ≡ record { verdict = Verdict.Refused refusal; lines = 0; cost = 0 } ⌝ }
+{
+    Price {
+        verdict: Verdict::Refused(refusal),
+        lines: 0,
+        cost: 0,
+    }
+}

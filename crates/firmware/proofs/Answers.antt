@@ -24,10 +24,12 @@ use Rattle.model.proofs.Places.{placeIn, then-most, pricing-most}
 use Rattle.taskfile.specs.File.{verdict, taskOf}
 use Rattle.taskfile.proofs.Accepted as files
 use Rattle.taskfile.proofs.Places.{verdict-most}
-use Rattle.planblock.specs.Plans.{planVerdict, planBytes, readVerdict, planOf}
-use Rattle.planblock.proofs.Verdicts.{count-accepted, read-place}
+use Rattle.planvalue.specs.Values.{planVerdict}
+use Rattle.planvalue.proofs.Verdicts.{count-accepted}
+use Rattle.planvalue.proofs.Lists.{list-stores}
+use Rattle.planblock.specs.Plans.{planBytes, readVerdict, planOf}
+use Rattle.planblock.proofs.Verdicts.{read-place}
 use Rattle.planblock.proofs.Roundtrip.{store-back}
-use Rattle.planblock.proofs.Lists.{list-stores}
 use Rattle.planner.specs.Calls.{PlanAnswer, blockVerdict, blockRefused, blockPlan}
 use Rattle.firmware.specs.Calls.{PlanCall, StoredBest}
 

@@ -2,4 +2,3 @@ pub mod Storing
 pub mod Reading
 pub mod Verdicts
 pub mod Roundtrip
-pub mod Lists

@@ -14,7 +14,6 @@ use borrow.Author.Tests.{eqb-true, eq-eqb, le-ltb}
 use Rattle.model.specs.Answers.{accepted}
 use Rattle.model.specs.declared.Plan.{Plan}
 use Rattle.model.specs.declared.Refusal.the-variants.{Length, Checksum, Block as WrongBlock, Output}
-use Rattle.model.specs.declared.Verdict.{Verdict}
 use Rattle.model.specs.declared.Verdict.the-variants.{Accepted, Refused}
 use Rattle.model.proofs.Verdicts.{never-both, is-accepted}
 use Rattle.model.proofs.Lists.{and-split}
@@ -22,9 +21,10 @@ use Rattle.block.specs.Bytes.{le, les, field, fields}
 use Rattle.block.specs.Blocks.{numbered, checksumRight, bodyRight}
 use Rattle.block.proofs.Bytes.{length-le, field-le, field-take, length-fields, fields-les, fields-take}
 use Rattle.block.proofs.Blocks.{length-numbered, length-sealed, checksum-sealed, body-sealed, block-named, block-is, lowest-nowhere}
-use Rattle.planblock.specs.Plans.{entryRight, planVerdict, planHead, planNamed, planBytes, planOf, planRight, readVerdict, storeVerdict, stored, PlanFits}
+use Rattle.planvalue.specs.Values.{entryRight, planVerdict}
+use Rattle.planvalue.proofs.Verdicts.{accepted-parts, count-accepted}
+use Rattle.planblock.specs.Plans.{planHead, planNamed, planBytes, planOf, planRight, readVerdict, storeVerdict, stored, PlanFits}
 use Rattle.planblock.proofs.Storing.{length-head, length-named}
-use Rattle.planblock.proofs.Verdicts.{accepted-parts, count-accepted}
 
 -- the last number of what a list begins with is read, and the rest is what it begins with
 last-read : (bs xs : List ℕ) (from w v : ℕ) → take (from + w) bs ≡ xs ++ le w v → from + w ≤ length bs → v < 256 ^ w

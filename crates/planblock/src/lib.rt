@@ -4,87 +4,19 @@ use model::Refusal;
 use model::Verdict;
 ghost use mathlib.Core.Path.{_≡_};
 ghost use mathlib.Core.List.{_++_};
-ghost use Prim.Native.Nat.{_+_, _-_, _*_, _≤_, _<_};
+ghost use Prim.Native.Nat.{_+_, _-_, _*_, _≤_};
 ghost use lib.ListN.{length, take, replicate};
-ghost use Rattle.model.specs.Lists.{rightPoint};
-ghost use Rattle.model.specs.Answers.{refusedAt, onAccepted};
+ghost use Rattle.model.specs.Answers.{onAccepted};
 ghost use Rattle.model.specs.Planning.{noPlan};
 ghost use Rattle.block.specs.Bytes.{les, field, fields};
-ghost use Rattle.block.specs.Blocks.{lowestFrom, numbered, bodyRight};
-ghost use Rattle.planblock.specs.Plans.{pointBefore, entryRight, planInRange, planVerdict, planHead, planNamed, planBytes, planOf, planRight, readVerdict, storeVerdict, stored};
+ghost use Rattle.block.specs.Blocks.{numbered, bodyRight};
+ghost use Rattle.planvalue.specs.Values.{planVerdict};
+ghost use Rattle.planblock.specs.Plans.{planHead, planNamed, planBytes, planOf, planRight, readVerdict, storeVerdict, stored};
 
 // What reading answers: the plan is all zeros where the verdict is a refusal.
 pub struct PlanRead {
     pub verdict: Verdict,
     pub plan: Plan,
-}
-
-// A point p after the point a is above it and below n.
-fn right_point(n: u16, a: u16, p: u16) -> bool
-    ensures { λ r. ⌜ r ≡ rightPoint n a p ⌝ }
-{
-    a < p && p < n
-}
-
-// The point before index i; 0 before the first.
-fn point_before(points: [u16; 64], i: usize) -> u16
-    requires { ⌜ i < 64 ⌝ }
-    ensures { λ r. ⌜ r ≡ pointBefore points i ⌝ }
-{
-    if i == 0 {
-        return 0;
-    }
-    points[i - 1]
-}
-
-// Whether entry i of a plan is a right point below the count, or 0 from there on.
-fn entry_right(plan: Plan, i: usize) -> bool
-    requires { ⌜ i < 64 ⌝ }
-    ensures { λ r. ⌜ r ≡ entryRight plan i ⌝ }
-{
-    let points = plan.points;
-    let count = plan.count as usize;
-    if i < count {
-        return right_point(plan.blocks, point_before(points, i), points[i]);
-    }
-    points[i] == 0
-}
-
-// The verdict on the entries: the lowest wrong one.
-fn check_entries(plan: Plan) -> Verdict
-    ensures { λ r. ⌜ r ≡ refusedAt (lowestFrom (entryRight plan) 0 64) Refusal.Argument Verdict.Accepted ⌝ }
-{
-    let mut i = 0;
-    while i < 64 {
-        if !entry_right(plan, i) {
-            return Verdict::Refused(Refusal::Argument(i));
-        }
-        i += 1;
-    }
-    Verdict::Accepted
-}
-
-// Whether N is 1 to 64 and the count at most 63.
-fn in_range(plan: Plan) -> bool
-    ensures { λ r. ⌜ r ≡ planInRange plan ⌝ }
-{
-    if plan.blocks < 1 {
-        return false;
-    }
-    if 64 < plan.blocks {
-        return false;
-    }
-    plan.count <= 63
-}
-
-// Whether a plan can be stored.
-pub fn check(plan: Plan) -> Verdict
-    ensures { λ r. ⌜ r ≡ planVerdict plan ⌝ }
-{
-    if !in_range(plan) {
-        return Verdict::Refused(Refusal::Argument(0));
-    }
-    check_entries(plan)
 }
 
 // Stores all that stands before the points: bytes 0 to 19. Byte 0 is the kind, 4, and byte 1 zero.
@@ -166,7 +98,7 @@ pub fn store(plan: Plan, out: &mut [u8]) -> Verdict
     if out.len() != 512 {
         return Verdict::Refused(Refusal::Output);
     }
-    let verdict = check(plan);
+    let verdict = planvalue::check(plan);
     put_accepted(verdict, plan, out);
     verdict
 }
@@ -241,7 +173,7 @@ fn plan_right(bytes: &[u8], plan: Plan) -> bool
     requires { ⌜ plan .count ≤ 63 ⌝ }
     ensures { λ r. ⌜ r ≡ planRight (now (bytes .entry)) ⌝ }
 {
-    let verdict = check(plan);
+    let verdict = planvalue::check(plan);
     match verdict {
         Verdict::Accepted => frame_right(bytes, plan.count as usize),
         Verdict::Refused(_) => false,

@@ -4,7 +4,7 @@ use model::Plan;
 use model::Verdict;
 ghost use mathlib.Core.Path.{_≡_};
 ghost use Prim.Native.Nat.{_≤_, _<_};
-ghost use Rattle.planblock.specs.Plans.{planVerdict};
+ghost use Rattle.planvalue.specs.Values.{planVerdict};
 
 fn print(label: &[u8], n: u64) {
     io::write_all(STDOUT_FILENO, label);

@@ -2,7 +2,7 @@
 -- Assumes nothing.
 use mathlib.Core.Path.{sym, _∙_}
 use borrow.Author.Needs.{needs}
-use Rattle.planblock.proofs.Verdicts.{count-accepted}
+use Rattle.planvalue.proofs.Verdicts.{count-accepted}
 use Rattle.planblock.proofs.put_accepted.Statement.{statement}
 use Rattle.planblock.proofs.put_accepted.Tie as tie
 

@@ -9,8 +9,8 @@ use Rattle.model.specs.declared.Verdict.{Verdict}
 use Rattle.model.specs.declared.Verdict.the-variants.{Accepted, Refused}
 use Rattle.model.proofs.Verdicts.{never-both}
 use Rattle.taskfile.specs.File.{verdict, taskOf}
+use Rattle.planvalue.proofs.Verdicts.{count-accepted}
 use Rattle.planblock.specs.Plans.{readVerdict, planOf}
-use Rattle.planblock.proofs.Verdicts.{count-accepted}
 use Rattle.planblock.proofs.Roundtrip.{store-back, zeros-after}
 use Rattle.planner.specs.Calls.{blockVerdict, blockRefused, blockPlan}
 use borrow.Author.Needs.{needs}

@@ -16,7 +16,7 @@ use Rattle.model.specs.Planning.{planFor}
 use Rattle.model.specs.declared.Verdict.the-variants.{Accepted}
 use Rattle.model.proofs.Lists.{rising-short, point-right}
 use Rattle.block.proofs.Blocks.{nowhere-lowest}
-use Rattle.planblock.specs.Plans.{pointBefore, entryRight, planInRange, planVerdict}
+use Rattle.planvalue.specs.Values.{pointBefore, entryRight, planInRange, planVerdict}
 
 module _ (t : Task) (ps : List ℕ) (least : 1 ≤ blockCount t) (most : blockCount t ≤ 64) (well : wellFormed (blockCount t) ps ≡ true) where
   abbrev points : List ℕ

@@ -1,10 +1,10 @@
--- `planblock::entry_right` meets its contract: an entry below the count is tested as a point, and any other for zero.
+-- `planvalue::entry_right` meets its contract: an entry below the count is tested as a point, and any other for zero.
 -- Assumes nothing.
 use borrow.Author.Tests.{lt-ltb, le-ltb}
 use borrow.Author.Needs.{needs}
-use Rattle.planblock.specs.Plans.{entryRight}
-use Rattle.planblock.proofs.entry_right.Statement.{statement}
-use Rattle.planblock.proofs.entry_right.Tie as tie
+use Rattle.planvalue.specs.Values.{entryRight}
+use Rattle.planvalue.proofs.entry_right.Statement.{statement}
+use Rattle.planvalue.proofs.entry_right.Tie as tie
 
 cast-count : tie.Need-cast-count
 cast-count c = search needs

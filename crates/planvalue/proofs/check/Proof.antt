@@ -1,10 +1,10 @@
--- `planblock::check` meets its contract: the range is tested first, and then the entries.
+-- `planvalue::check` meets its contract: the range is tested first, and then the entries.
 -- Assumes nothing.
 use borrow.Author.Tests.{not-true, not-false}
 use borrow.Author.Needs.{needs}
-use Rattle.planblock.specs.Plans.{planVerdict}
-use Rattle.planblock.proofs.check.Statement.{statement}
-use Rattle.planblock.proofs.check.Tie as tie
+use Rattle.planvalue.specs.Values.{planVerdict}
+use Rattle.planvalue.proofs.check.Statement.{statement}
+use Rattle.planvalue.proofs.check.Tie as tie
 
 in-range-requires : tie.Need-in-range-requires
 in-range-requires c κs = search needs

@@ -1,4 +1,4 @@
--- `planblock::check_entries` meets its contract. The loop's invariant: the lowest wrong entry of all is the lowest from `i` on.
+-- `planvalue::check_entries` meets its contract. The loop's invariant: the lowest wrong entry of all is the lowest from `i` on.
 -- Assumes nothing.
 use Prim.Native.Nat.{_≤_, _-_}
 use mathlib.Core.Path.{_≡_}
@@ -7,10 +7,10 @@ use native.Mathlib.Numerals.{add-one}
 use borrow.Author.Needs.{needs}
 use borrow.Author.Tests.{not-true, not-false}
 use Rattle.block.specs.Blocks.{lowestFrom}
-use Rattle.planblock.specs.Plans.{entryRight}
-use Rattle.planblock.proofs.Verdicts.{lowest-step}
-use Rattle.planblock.proofs.check_entries.Statement.{statement}
-use Rattle.planblock.proofs.check_entries.Tie as tie
+use Rattle.planvalue.specs.Values.{entryRight}
+use Rattle.planvalue.proofs.Verdicts.{lowest-step}
+use Rattle.planvalue.proofs.check_entries.Statement.{statement}
+use Rattle.planvalue.proofs.check_entries.Tie as tie
 
 abbrev Inv-loop : tie.InvT-loop
 Inv-loop plan i₀ i = (i ≤ 64) × (lowestFrom (entryRight plan) i (64 - i) ≡ lowestFrom (entryRight plan) 0 64)

@@ -1,4 +1,4 @@
--- `planblock::point_before` meets its contract: the point before index i is that at i - 1.
+-- `planvalue::point_before` meets its contract: the point before index i is that at i - 1.
 -- Assumes nothing.
 use Prim.Native.Nat.{ℕ, zero, suc, _-_}
 use mathlib.Core.Path.{_≡_, refl}
@@ -6,9 +6,9 @@ use mathlib.Core.List.{List}
 use native.Mathlib.Omega.{arith}
 use lib.ListN.{getD}
 use borrow.Author.Needs.{needs}
-use Rattle.planblock.specs.Plans.{pointBefore}
-use Rattle.planblock.proofs.point_before.Statement.{statement}
-use Rattle.planblock.proofs.point_before.Tie as tie
+use Rattle.planvalue.specs.Values.{pointBefore}
+use Rattle.planvalue.proofs.point_before.Statement.{statement}
+use Rattle.planvalue.proofs.point_before.Tie as tie
 
 later : (ps : List ℕ) (i : ℕ) → (i ≡ 0 → ⊥) → getD ps (i - 1) 0 ≡ pointBefore ps i
 unfolding pointBefore

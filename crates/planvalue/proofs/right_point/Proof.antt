@@ -1,8 +1,8 @@
--- `planblock::right_point` meets its contract: the second test is made where the first holds.
+-- `planvalue::right_point` meets its contract: the second test is made where the first holds.
 -- Assumes nothing.
 use borrow.Author.Tests.{lt-ltb, le-ltb}
-use Rattle.planblock.proofs.right_point.Statement.{statement}
-use Rattle.planblock.proofs.right_point.Tie as tie
+use Rattle.planvalue.proofs.right_point.Statement.{statement}
+use Rattle.planvalue.proofs.right_point.Tie as tie
 
 returns : tie.Need-returns
 returns c = rw (lt-ltb _ _ (c .if1 .taken))

@@ -1,9 +1,9 @@
--- `planblock::in_range` meets its contract: each return is the first test that fails, or the last one.
+-- `planvalue::in_range` meets its contract: each return is the first test that fails, or the last one.
 -- Assumes nothing.
 use borrow.Author.Tests.{le-leb, lt-leb}
-use Rattle.planblock.specs.Plans.{planInRange}
-use Rattle.planblock.proofs.in_range.Statement.{statement}
-use Rattle.planblock.proofs.in_range.Tie as tie
+use Rattle.planvalue.specs.Values.{planInRange}
+use Rattle.planvalue.proofs.in_range.Statement.{statement}
+use Rattle.planvalue.proofs.in_range.Tie as tie
 
 returns : tie.Need-returns
 unfolding planInRange

@@ -1,0 +1,37 @@
+-- Laws of verdicts on plans: what the test of the entries says step by step, and what an accepted plan has.
+-- Assumes nothing.
+use Prim.Native.Nat.{ℕ, suc, _-_, _<_, _≤_}
+use mathlib.Core.Path.{_≡_, refl, sym}
+use mathlib.Core.Bool.{Bool, true, false, cond, _&&_}
+use native.Mathlib.Omega.{arith}
+use lib.Dec.{leb}
+use borrow.Author.Tests.{leb-true}
+use Rattle.model.specs.Answers.{refusedAt}
+use Rattle.model.specs.declared.Place.{Place}
+use Rattle.model.specs.declared.Place.the-variants.{Nowhere, At}
+use Rattle.model.specs.declared.Plan.{Plan}
+use Rattle.model.specs.declared.Refusal.the-variants.{Argument}
+use Rattle.model.specs.declared.Verdict.the-variants.{Accepted, Refused}
+use Rattle.model.proofs.Verdicts.{never-both}
+use Rattle.model.proofs.Lists.{and-split}
+use Rattle.block.specs.Blocks.{lowestFrom}
+use Rattle.planvalue.specs.Values.{entryRight, planInRange, planVerdict}
+
+pub lowest-step : (f : ℕ → Bool) (i n : ℕ) → i < n → lowestFrom f i (n - i) ≡ cond (f i) (lowestFrom f (suc i) (n - suc i)) (At i)
+unfolding lowestFrom
+lowest-step f i n h =
+    let s : n - i ≡ suc (n - suc i) = omega arith in
+    rw s
+
+pub accepted-parts : (p : Plan) → planVerdict p ≡ Accepted → (planInRange p ≡ true) × (lowestFrom (entryRight p) 0 64 ≡ Nowhere)
+unfolding planVerdict
+accepted-parts p e = go (planInRange p) (lowestFrom (entryRight p) 0 64) e
+  where
+    go : (b : Bool) (k : Place) → cond b (refusedAt k Argument Accepted) (Refused (Argument 0)) ≡ Accepted → (b ≡ true) × (k ≡ Nowhere)
+    go true Nowhere q = (refl, refl)
+    go true (At i) q = absurd (never-both (sym q))
+    go false k q = absurd (never-both (sym q))
+
+pub count-accepted : (p : Plan) → planVerdict p ≡ Accepted → p .count ≤ 63
+unfolding planInRange
+count-accepted p e = leb-true (p .count) 63 (and-split (leb 1 (p .blocks) && leb (p .blocks) 64) (leb (p .count) 63) (accepted-parts p e .0) .1)

@@ -4,7 +4,6 @@ ghost use Rattle.model.specs.Answers.{onAccepted};
 ghost use Rattle.model.specs.Planning.{noPlan};
 ghost use Rattle.taskfile.specs.File.{verdict};
 ghost use Rattle.planblock.specs.Plans.{storeVerdict, stored, readVerdict, planOf};
-ghost use Rattle.regions.specs.Ready.{Ready};
 ghost use Rattle.planner.specs.Calls.{noWords, usefulVerdict, usefulWords, regionVerdict, loadedWords, lengthOf, priceVerdict, priceLines, priceCost, blockVerdict, blockRefused, blockPlan, PlanAnswer};
 use lineset::LineSet;
 use model::Plan;
@@ -32,13 +31,6 @@ pub struct BlockPrice {
     pub verdict: Verdict,
     pub unread: bool,
     pub plan: Plan,
-}
-
-// The useful lines of each edge, the accessed useful lines of each block, and the evicted lines.
-struct AllLines {
-    useful: [u64; 520],
-    accessed: [u64; 520],
-    evicted: LineSet,
 }
 
 // U(k) of a file.
@@ -81,31 +73,12 @@ pub fn region(file: &[u8], a: usize, b: usize) -> RegionLines
     if taskfile::block_count(file) < b {
         return no_region(Verdict::Refused(Refusal::Argument(0)));
     }
-    let all = all_lines(file);
-    let useful = all.useful;
-    let accessed = all.accessed;
-    let found = regions::region_between(file, &useful, &accessed, all.evicted, a, b);
+    let found = regions::measure(file, a, b);
     let loaded = found.loaded;
     RegionLines {
         verdict: Verdict::Accepted,
         loaded,
         length: found.length,
-    }
-}
-
-// The lines of an accepted file.
-fn all_lines(file: &[u8]) -> AllLines
-    requires { ⌜ verdict (now file) ≡ Verdict.Accepted ⌝ }
-    ensures { λ r. ⌜ Ready (now (file .entry)) (r .useful) (r .accessed) (r .evicted) ⌝ }
-{
-    let mut useful = [0u64; 520];
-    let mut accessed = [0u64; 520];
-    reuse::edge_lines(file, &mut useful, &mut accessed);
-    let evicted = reuse::evicted_lines(file);
-    AllLines {
-        useful,
-        accessed,
-        evicted,
     }
 }
 
@@ -132,10 +105,7 @@ pub fn price(file: &[u8], points: &[u16]) -> Price
             cost: 0,
         };
     };
-    let all = all_lines(file);
-    let useful = all.useful;
-    let accessed = all.accessed;
-    prices::price_list(file, &useful, &accessed, all.evicted, points)
+    prices::price_of(file, points)
 }
 
 // The plan of the points of a plan block, with the file's N and id.
@@ -149,10 +119,7 @@ pub fn price_block(file: &[u8], block: &[u8]) -> BlockPrice
     let Verdict::Accepted = before else {
         return no_block_price(before, answers::accepted(checked));
     };
-    let all = all_lines(file);
-    let useful = all.useful;
-    let accessed = all.accessed;
-    let priced = plans::price_points(file, &useful, &accessed, all.evicted, read.plan);
+    let priced = plans::price_points(file, read.plan);
     let verdict = priced.verdict;
     let plan = priced.plan;
     BlockPrice {
@@ -183,10 +150,7 @@ pub fn plan(file: &[u8]) -> FilePlan
     let Verdict::Accepted = checked else {
         return plans::no_plan(checked);
     };
-    let all = all_lines(file);
-    let useful = all.useful;
-    let accessed = all.accessed;
-    plans::least_plan(file, &useful, &accessed, all.evicted)
+    plans::least_plan(file)
 }
 
 // Stores a plan in a lent block.

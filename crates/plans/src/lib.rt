@@ -1,10 +1,10 @@
-// The plan of an accepted file, from the lines of its edges: that of given points, or one of least cost.
+// The plan of an accepted file: that of given points, or one of least cost.
 ghost use mathlib.Core.Path.{_≡_};
 ghost use lib.ListN.{drop, replicate};
 ghost use Prim.Native.Nat.{_-_, _<_, _≤_};
 ghost use Rattle.model.specs.Answers.{onAccepted, pricing};
 ghost use Rattle.model.specs.Planning.{chosen, planFor, noPlan, Planned};
-ghost use Rattle.taskfile.specs.File.{taskOf};
+ghost use Rattle.taskfile.specs.File.{verdict, taskOf};
 ghost use Rattle.regions.specs.Ready.{Ready};
 use lineset::LineSet;
 use model::Plan;
@@ -18,21 +18,15 @@ pub struct FilePlan {
     pub plan: Plan,
 }
 
-// The plan of the points that a plan holds, from the lines of the file's edges.
-pub fn price_points(
-    file: &[u8],
-    useful: &[u64; 520],
-    accessed: &[u64; 520],
-    evicted: LineSet,
-    first: Plan,
-) -> FilePlan
-    requires { ⌜ Ready (now file) (now useful) (now accessed) evicted ⌝ }
+// The plan of the points that a plan holds.
+pub fn price_points(file: &[u8], first: Plan) -> FilePlan
+    requires { ⌜ verdict (now file) ≡ Verdict.Accepted ⌝ }
     requires { ⌜ (first .count ≤ 63) × (drop (first .count) (first .points) ≡ replicate (64 - first .count) 0) ⌝ }
     ensures { λ r. ⌜ (r .verdict ≡ pricing (taskOf (now (file .entry))) (chosen first)) × (r .plan ≡ onAccepted (pricing (taskOf (now (file .entry))) (chosen first)) (planFor (taskOf (now (file .entry))) (chosen first)) noPlan) ⌝ }
 {
     let points = first.points;
     let count = first.count as usize;
-    let price = prices::price_list(file, useful, accessed, evicted, &points[..count]);
+    let price = prices::price_of(file, &points[..count]);
     let verdict = price.verdict;
     let Verdict::Accepted = verdict else {
         return no_plan(verdict);
@@ -64,8 +58,20 @@ fn plan_of(blocks: usize, id: u32, first: Plan, price: Price) -> Plan
     }
 }
 
-// The plan of an accepted file, from the lines of its edges.
-pub fn least_plan(
+// A plan whose list fits and costs least.
+pub fn least_plan(file: &[u8]) -> FilePlan
+    requires { ⌜ verdict (now file) ≡ Verdict.Accepted ⌝ }
+    ensures { λ r. ⌜ Planned (taskOf (now (file .entry))) (r .verdict) (r .plan) ⌝ }
+{
+    let mut useful = [0u64; 520];
+    let mut accessed = [0u64; 520];
+    reuse::edge_lines(file, &mut useful, &mut accessed);
+    let evicted = reuse::evicted_lines(file);
+    plan_regions(file, &useful, &accessed, evicted)
+}
+
+// The same, from the lines of all edges.
+fn plan_regions(
     file: &[u8],
     useful: &[u64; 520],
     accessed: &[u64; 520],

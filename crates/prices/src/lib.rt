@@ -3,7 +3,7 @@ ghost use mathlib.Core.Path.{_≡_};
 ghost use lib.ListN.{getD};
 ghost use Rattle.model.specs.Task.{blockCount};
 ghost use Rattle.model.specs.Lists.{wrongPoint};
-ghost use Rattle.taskfile.specs.File.{taskOf};
+ghost use Rattle.taskfile.specs.File.{verdict, taskOf};
 ghost use Rattle.regions.specs.Ready.{Ready};
 ghost use Rattle.prices.specs.Answers.{Prices};
 use lineset::LineSet;
@@ -36,6 +36,18 @@ fn wrong_point(points: &[u16], n: usize) -> Place
 }
 
 // The price of a list of points: 7 at its lowest wrong point, then 8 at its lowest region above the limit.
+pub fn price_of(file: &[u8], points: &[u16]) -> Price
+    requires { ⌜ verdict (now file) ≡ Verdict.Accepted ⌝ }
+    ensures { λ r. ⌜ Prices (taskOf (now (file .entry))) (now (points .entry)) r ⌝ }
+{
+    let mut useful = [0u64; 520];
+    let mut accessed = [0u64; 520];
+    reuse::edge_lines(file, &mut useful, &mut accessed);
+    let evicted = reuse::evicted_lines(file);
+    price_list(file, &useful, &accessed, evicted, points)
+}
+
+// The same, from the lines of all edges.
 pub fn price_list(
     file: &[u8],
     useful: &[u64; 520],

@@ -29,6 +29,18 @@ struct Run {
 }
 
 // The loaded lines and the length of the region from edge a to edge b.
+pub fn measure(file: &[u8], a: usize, b: usize) -> Region
+    requires { ⌜ (verdict (now file) ≡ Verdict.Accepted) × (a < b) × (b ≤ blockCount (taskOf (now file))) ⌝ }
+    ensures { λ r. ⌜ Measures (taskOf (now (file .entry))) a b r ⌝ }
+{
+    let mut useful = [0u64; 520];
+    let mut accessed = [0u64; 520];
+    reuse::edge_lines(file, &mut useful, &mut accessed);
+    let evicted = reuse::evicted_lines(file);
+    region_between(file, &useful, &accessed, evicted, a, b)
+}
+
+// The same, from the lines of all edges.
 pub fn region_between(
     file: &[u8],
     useful: &[u64; 520],

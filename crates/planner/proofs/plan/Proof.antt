@@ -27,15 +27,12 @@ returns c =
       planned = λ e. absurd (never-both (sym e ∙ sym check ∙ told));
     }
 
-all-lines-requires : tie.Need-all-lines-requires
-all-lines-requires c κs = sym (c .before .before .check .ensures) ∙ c .enum-told .given .1
-
 least-plan-requires : tie.Need-least-plan-requires
-least-plan-requires c κs = search needs
+least-plan-requires c κs = sym (c .before .before .check .ensures) ∙ c .enum-told .given .1
 
 returns-2 : tie.Need-returns-2
 returns-2 c =
-    let accepted = sym (c .before .before .before .before .before .before .before .before .check .ensures) ∙ c .before .before .before .before .before .before .enum-told .given .1 in
+    let accepted = sym (c .before .before .before .check .ensures) ∙ c .before .enum-told .given .1 in
     record { refused = λ x e. absurd (never-both (sym accepted ∙ e)); planned = λ e. c .least-plan .ensures }
 
 pub plan-spec : {M : Type 1} → statement M
@@ -47,6 +44,5 @@ plan-spec =
     enum-told-2
     no-plan-requires
     returns
-    all-lines-requires
     least-plan-requires
     returns-2)

@@ -19,17 +19,14 @@ returns : tie.Need-returns
 unfolding priceVerdict priceLines priceCost
 returns c = let check = c .before .before .check in rw (← check .ensures, c .enum-told2 .given .1) (refl, refl, refl)
 
-all-lines-requires : tie.Need-all-lines-requires
-all-lines-requires c κs = sym (c .before .before .check .ensures) ∙ c .enum-told .given .1
-
-price-list-requires : tie.Need-price-list-requires
-price-list-requires c κs = search needs
+price-of-requires : tie.Need-price-of-requires
+price-of-requires c κs = sym (c .before .before .check .ensures) ∙ c .enum-told .given .1
 
 returns-2 : tie.Need-returns-2
 unfolding priceVerdict priceLines priceCost
 returns-2 c =
-    let accepted = sym (c .before .before .before .before .before .before .before .before .check .ensures) ∙ c .before .before .before .before .before .before .enum-told .given .1 in
-    rw accepted (c .price-list .ensures .verdict, c .price-list .ensures .lines, c .price-list .ensures .cost)
+    let accepted = sym (c .before .before .before .check .ensures) ∙ c .before .enum-told .given .1 in
+    rw accepted (c .price-of .ensures .verdict, c .price-of .ensures .lines, c .price-of .ensures .cost)
 
 pub price-spec : {M : Type 1} → statement M
 price-spec =
@@ -39,6 +36,5 @@ price-spec =
     enum-told
     enum-told-2
     returns
-    all-lines-requires
-    price-list-requires
+    price-of-requires
     returns-2)

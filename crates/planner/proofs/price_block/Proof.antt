@@ -67,37 +67,27 @@ returns c =
       rw (later .0) (answers .2),
     )
 
-all-lines-requires : tie.Need-all-lines-requires
-all-lines-requires c κs =
+price-points-requires : tie.Need-price-points-requires
+price-points-requires c κs =
     let start = c .before .before .before .before .before .before .before in
     let file = start .args .file .now in
     let block = start .args .block .now in
     let check = c .before .before .before .before .check .ensures in
     let read = c .before .before .before .read .ensures in
     let earlier = rw (check, read .0) at (sym (c .before .before .earlier .ensures) ∙ c .enum-told .given .1) in
-    before-accepted (verdict file) (readVerdict block) earlier .0
-
-price-points-requires : tie.Need-price-points-requires
-price-points-requires c κs =
-    let start = c .before .before .before .before .before .before .before .before .before .before .before .before in
-    let file = start .args .file .now in
-    let block = start .args .block .now in
-    let check = c .before .before .before .before .before .before .before .before .before .check .ensures in
-    let read = c .before .before .before .before .before .before .before .before .read .ensures in
-    let earlier = rw (check, read .0) at (sym (c .before .before .before .before .before .before .before .earlier .ensures) ∙ c .before .before .before .before .before .enum-told .given .1) in
     let both = before-accepted (verdict file) (readVerdict block) earlier in
-    rw (read .1, both .1) (c .before .before .before .before .all-lines .ensures, (count-accepted (planOf block) (store-back block (both .1) .0), zeros-after block))
+    rw (read .1, both .1) (both .0, (count-accepted (planOf block) (store-back block (both .1) .0), zeros-after block))
 
 returns-2 : tie.Need-returns-2
 unfolding blockVerdict blockRefused blockPlan
 returns-2 c =
     let priced = c .before in
-    let start = priced .before .before .before .before .before .before .before .before .before .before .before .before .before in
+    let start = priced .before .before .before .before .before .before .before .before in
     let file = start .args .file .now in
     let block = start .args .block .now in
-    let check = priced .before .before .before .before .before .before .before .before .before .before .check .ensures in
-    let read = priced .before .before .before .before .before .before .before .before .before .read .ensures in
-    let earlier = rw (check, read .0) at (sym (priced .before .before .before .before .before .before .before .before .earlier .ensures) ∙ priced .before .before .before .before .before .before .enum-told .given .1) in
+    let check = priced .before .before .before .before .before .check .ensures in
+    let read = priced .before .before .before .before .read .ensures in
+    let earlier = rw (check, read .0) at (sym (priced .before .before .before .earlier .ensures) ∙ priced .before .enum-told .given .1) in
     let both = before-accepted (verdict file) (readVerdict block) earlier in
     let answers = rw (read .1, both .1) at (priced .price-points .ensures) in
     rw (both .0, both .1) (answers .0, refl, answers .1)
@@ -114,6 +104,5 @@ price-block-spec =
     accepted-requires
     no-block-price-requires
     returns
-    all-lines-requires
     price-points-requires
     returns-2)

@@ -64,18 +64,15 @@ returns-3 c =
     )
     (refl, refl, refl)
 
-all-lines-requires : tie.Need-all-lines-requires
-all-lines-requires c κs = sym (c .before .before .before .before .before .check .ensures) ∙ c .before .before .before .enum-told .given .1
-
-region-between-requires : tie.Need-region-between-requires
-region-between-requires c κs = search needs
+measure-requires : tie.Need-measure-requires
+measure-requires c κs = (sym (c .before .before .before .before .before .check .ensures) ∙ c .before .before .before .enum-told .given .1, omega arith, omega arith)
 
 returns-4 : tie.Need-returns-4
 unfolding regionVerdict loadedWords lengthOf
 returns-4 c =
-    let start = c .before .before .before .before .before .before .before .before .before .before .before .before .before .before in
-    let accepted = sym (c .before .before .before .before .before .before .before .before .before .before .before .before .check .ensures) ∙ c .before .before .before .before .before .before .before .before .before .before .enum-told .given .1 in
-    let found = c .before .region-between in
+    let start = c .before .before .before .before .before .before .before .before .before in
+    let accepted = sym (c .before .before .before .before .before .before .before .check .ensures) ∙ c .before .before .before .before .before .enum-told .given .1 in
+    let found = c .before .measure in
     rw (
       accepted,
       lt-ltb (start .args .a) (start .args .b) (omega arith),
@@ -101,6 +98,5 @@ region-spec =
     block-count-requires
     no-region-requires-3
     returns-3
-    all-lines-requires
-    region-between-requires
+    measure-requires
     returns-4)

@@ -14,11 +14,11 @@ cast-count c = search needs
 array-share-prefix-points : tie.Need-array-share-prefix-points
 array-share-prefix-points c = let first = c .before .before .before .args .first in omega (arith, points-long (first .count) (first .points) (search needs) (search needs))
 
-slice-aggregate-price-list : tie.Need-slice-aggregate-price-list
-slice-aggregate-price-list c = let first = c .before .before .before .before .args .first in sym (count-is (first .count) (first .points) (search needs) (search needs))
+slice-aggregate-price-of : tie.Need-slice-aggregate-price-of
+slice-aggregate-price-of c = let first = c .before .before .before .before .args .first in sym (count-is (first .count) (first .points) (search needs) (search needs))
 
-price-list-requires : tie.Need-price-list-requires
-price-list-requires c κs = search needs
+price-of-requires : tie.Need-price-of-requires
+price-of-requires c κs = search needs
 
 enum-told : tie.Need-enum-told
 enum-told c = search needs
@@ -31,7 +31,7 @@ no-plan-requires c κs = search needs
 
 returns : tie.Need-returns
 returns c =
-    let price = c .before .before .before .price-list in
+    let price = c .before .before .before .price-of in
     let told = c .before .enum-told2 .given .1 in
     let answers = c .no-plan .ensures in
     rw (answers .0, answers .1, ← price .ensures .verdict, told) (refl, refl)
@@ -46,7 +46,7 @@ plan-of-requires : tie.Need-plan-of-requires
 plan-of-requires c κs =
     let start = c .before .before .before .before .before .before .before .before .before in
     let first = start .args .first in
-    let price = c .before .before .before .before .price-list in (
+    let price = c .before .before .before .before .price-of in (
       c .before .block-count .ensures .2,
       lines-fit (first .count) (first .points) (search needs) (search needs) (taskOf (start .args .file .now))
           (sym (price .ensures .verdict) ∙ c .before .before .enum-told .given .1) (price .result) (price .ensures),
@@ -56,7 +56,7 @@ returns-2 : tie.Need-returns-2
 returns-2 c =
     let start = c .before .before .before .before .before .before .before .before .before .before in
     let first = start .args .first in
-    let price = c .before .before .before .before .before .price-list in
+    let price = c .before .before .before .before .before .price-of in
     let t = taskOf (start .args .file .now) in
     let accepted = sym (price .ensures .verdict) ∙ c .before .before .before .enum-told .given .1 in
     rw (accepted, c .plan-of .ensures, c .before .before .block-count .ensures .0, c .before .id .ensures)
@@ -68,8 +68,8 @@ price-points-spec =
     (tie.spec
     cast-count
     array-share-prefix-points
-    slice-aggregate-price-list
-    price-list-requires
+    slice-aggregate-price-of
+    price-of-requires
     enum-told
     enum-told-2
     no-plan-requires

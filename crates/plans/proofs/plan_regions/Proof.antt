@@ -1,4 +1,4 @@
--- `plans::least_plan` meets its contract: what the placement found over the table of regions, with its price.
+-- `plans::plan_regions` meets its contract: what the placement found over the table of regions, with its price.
 -- Assumes nothing.
 use mathlib.Core.Path.{sym}
 use native.Mathlib.Omega.{arith}
@@ -6,8 +6,8 @@ use borrow.Author.Tests.{not-true, not-false}
 use Rattle.taskfile.specs.File.{taskOf}
 use Rattle.plans.proofs.Plans.{points-long, count-is, none-planned, list-planned, list-lines-fit}
 use borrow.Author.Needs.{needs}
-use Rattle.plans.proofs.least_plan.Statement.{statement}
-use Rattle.plans.proofs.least_plan.Tie as tie
+use Rattle.plans.proofs.plan_regions.Statement.{statement}
+use Rattle.plans.proofs.plan_regions.Tie as tie
 
 fill-table-requires : tie.Need-fill-table-requires
 fill-table-requires c κs = search needs
@@ -66,8 +66,8 @@ returns-2 c =
     (list-planned t (c .before .before .before .before .before .before .before .before .before .before .fill-table .last .1 .1 .1 .1 .0) (p .result) (c .before .before .before .before .before .before .before .before .before .before .fill-table .ensures .1) (rw (n .0) at (p .ensures)) (omega arith)
     (not-false (p .result .found) (c .before .before .before .before .if1 .left)) (c .before .before .price-list .result) (c .before .before .price-list .ensures))
 
-pub least-plan-spec : {M : Type 1} → statement M
-least-plan-spec =
+pub plan-regions-spec : {M : Type 1} → statement M
+plan-regions-spec =
     tie.close
     (tie.spec
     fill-table-requires

@@ -5,6 +5,7 @@ use mathlib.Core.Path.{_≡_, refl, sym, ap, ap₂, _∙_}
 use mathlib.Core.Bool.{Bool, true, false, cond, _&&_, and-true}
 use mathlib.Core.Logic.{by-cases}
 use mathlib.Core.List.{List, _++_, append-nil, append-assoc}
+use native.Mathlib.Numerals.{add-one}
 use native.Mathlib.Omega.{arith}
 use native.Mathlib.Decide.{ℕ-discrete}
 use lib.Dec.{eqb}
@@ -164,3 +165,20 @@ lowest-within f a (suc n) k e = go (f a) e (lowest-within f (suc a) n k)
     go : (b : Bool) → cond b (lowestFrom f (suc a) n) (At a) ≡ At k → (lowestFrom f (suc a) n ≡ At k → k < suc a + n) → k < a + suc n
     go true q ih = omega (arith, ih q)
     go false q ih = let s : a ≡ k = cc in omega arith
+
+-- looked for one by one
+
+-- what is looked at is right: on to the next
+pub scan-next : (f : ℕ → Bool) (a b n : ℕ) → (n ≡ 0 → ⊥) → b ≡ a + 1 → f a ≡ true → lowestFrom f a n ≡ lowestFrom f b (n - 1)
+unfolding lowestFrom
+scan-next f a b zero h s e = absurd (h refl)
+scan-next f a b (suc n) h s e = let m : suc n - 1 ≡ n = omega arith in rw (e, s, add-one, m)
+
+-- it is wrong: it is the lowest
+pub scan-here : (f : ℕ → Bool) (a n : ℕ) → (n ≡ 0 → ⊥) → f a ≡ false → lowestFrom f a n ≡ At a
+scan-here f a n h e = lowest-at f a n a (omega arith) (omega arith) (λ i l u. absurd (omega arith)) e
+
+-- none is left
+pub scan-end : (f : ℕ → Bool) (a n : ℕ) → n ≡ 0 → lowestFrom f a n ≡ Nowhere
+unfolding lowestFrom
+scan-end f a n e = rw e

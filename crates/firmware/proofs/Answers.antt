@@ -46,7 +46,7 @@ stores : (file ps : List ℕ) → verdict file ≡ Accepted → wellFormed (bloc
 stores file ps e w =
     let a = files.accepted file e in
     let n = files.block-count file in
-    list-stores (taskOf file) ps (omega (arith, a .blocks-least, n)) (omega (arith, a .blocks-most, n)) w
+    list-stores (taskOf file) ps (omega (arith, a .blocks-least, n)) (files.few-blocks file e) w
 
 -- planning
 

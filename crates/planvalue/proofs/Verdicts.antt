@@ -1,9 +1,8 @@
--- Laws of verdicts on plans: what the test of the entries says step by step, and what an accepted plan has.
+-- Laws of verdicts on plans: what an accepted plan has.
 -- Assumes nothing.
-use Prim.Native.Nat.{ℕ, suc, _-_, _<_, _≤_}
+use Prim.Native.Nat.{_≤_}
 use mathlib.Core.Path.{_≡_, refl, sym}
 use mathlib.Core.Bool.{Bool, true, false, cond, _&&_}
-use native.Mathlib.Omega.{arith}
 use lib.Dec.{leb}
 use borrow.Author.Tests.{leb-true}
 use Rattle.model.specs.Answers.{refusedAt}
@@ -16,12 +15,6 @@ use Rattle.model.proofs.Verdicts.{never-both}
 use Rattle.model.proofs.Lists.{and-split}
 use Rattle.block.specs.Blocks.{lowestFrom}
 use Rattle.planvalue.specs.Values.{entryRight, planInRange, planVerdict}
-
-pub lowest-step : (f : ℕ → Bool) (i n : ℕ) → i < n → lowestFrom f i (n - i) ≡ cond (f i) (lowestFrom f (suc i) (n - suc i)) (At i)
-unfolding lowestFrom
-lowest-step f i n h =
-    let s : n - i ≡ suc (n - suc i) = omega arith in
-    rw s
 
 pub accepted-parts : (p : Plan) → planVerdict p ≡ Accepted → (planInRange p ≡ true) × (lowestFrom (entryRight p) 0 64 ≡ Nowhere)
 unfolding planVerdict

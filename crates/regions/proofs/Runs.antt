@@ -3,22 +3,14 @@
 use Prim.Native.Nat.{ℕ, suc, _+_, _-_, _≤_}
 use mathlib.Core.Path.{_≡_, ap}
 use mathlib.Core.Bool.{_||_, false}
-use mathlib.Core.List.{List}
 use native.Mathlib.Omega.{arith}
 use Rattle.model.specs.Sets.{Lines}
 use Rattle.model.specs.Task.{Task, blockCount}
 use Rattle.model.specs.Lines.{blockAt}
 use Rattle.model.specs.Regions.{unionAfter, timeAfter}
-use Rattle.model.specs.declared.Verdict.the-variants.{Accepted}
 use Rattle.lineset.specs.Members.{members}
-use Rattle.taskfile.specs.File.{verdict, taskOf}
-use Rattle.taskfile.proofs.Accepted.{accepted, block-count}
 use Rattle.regions.specs.Answers.{Spans}
 use Rattle.regions.specs.declared.Run.{Run}
-
--- an accepted file has at most 64 basic blocks
-pub few-blocks : (file : List ℕ) → verdict file ≡ Accepted → blockCount (taskOf file) ≤ 64
-few-blocks file h = omega (arith, block-count file, accepted file h .blocks-most)
 
 module _ (a k : ℕ) (h : a ≤ k) where
   one-more : k + 1 - a ≡ suc (k - a)

@@ -143,6 +143,10 @@ module _ (file : List ℕ) where
   unfolding taskOf
   preempter-at i d h = getD-collect (λ k. preempterOf (blockIn file k)) (1 + header file .blocks) (header file .preempters) i d h
 
+-- an accepted file has at most 64 basic blocks
+pub few-blocks : (file : List ℕ) → verdict file ≡ Accepted → blockCount (taskOf file) ≤ 64
+few-blocks file h = omega (arith, block-count file, accepted file h .blocks-most)
+
 -- the reads of the n blocks from block k, in order
 unfoldable pub readsBetween : List ℕ → ℕ → ℕ → List ℕ
 readsBetween file k zero = []

@@ -1,20 +1,18 @@
 -- The check of a block, part by part: the numbers that are read from bytes are those bytes again, so that byte 1 and the frame are left to test.
 -- Assumes nothing.
-use Prim.Native.Nat.{ℕ, zero, suc, _+_, _-_, _*_, _≤_}
-use mathlib.Core.Path.{_≡_, refl, ap, _∙_}
-use mathlib.Core.Bool.{Bool, true, false, _&&_, and-true}
+use Prim.Native.Nat.{ℕ, _+_, _-_, _*_, _≤_}
+use mathlib.Core.Path.{_≡_, ap, _∙_}
+use mathlib.Core.Bool.{Bool, true, _&&_, and-true}
 use mathlib.Core.List.{List, _++_, append-assoc}
-use native.Mathlib.Numerals.{add-one}
 use native.Mathlib.Omega.{arith}
 use lib.ListN.{length, take, drop, replicate}
 use lib.Seq.{take-add, drop-drop}
 use Rattle.model.specs.Lists.{sameList}
-use Rattle.model.specs.declared.Place.the-variants.{Nowhere, At}
 use Rattle.model.proofs.Lists.{and-split, list-same, same-append}
 use Rattle.block.specs.Bytes.{AllBytes, le, field}
 use Rattle.block.specs.Blocks.{checksumRight, bodyRight, lowestFrom}
 use Rattle.block.proofs.Bytes.{length-part, length-fields, le-field, les-fields}
-use Rattle.block.proofs.Blocks.{body-rest, lowest-at}
+use Rattle.block.proofs.Blocks.{body-rest, scan-next}
 use Rattle.taskfile.specs.File.{headerOf, headerBytes, entryBytes, readsIn, blockIn}
 
 pub length-in : (file : List ℕ) (k : ℕ) → k * 512 + 512 ≤ length file → length (blockIn file k) ≡ 512
@@ -72,12 +70,6 @@ sumRight file k = checksumRight (blockIn file k)
 abbrev pub ToLookAt : List ℕ → ℕ → ℕ → Type 0
 ToLookAt file count left = (left ≤ count) × (lowestFrom (sumRight file) 0 count ≡ lowestFrom (sumRight file) (count - left) left)
 
--- the block looked at is right: on to the next
-pub scan-next : (f : ℕ → Bool) (a b n : ℕ) → (n ≡ 0 → ⊥) → b ≡ a + 1 → f a ≡ true → lowestFrom f a n ≡ lowestFrom f b (n - 1)
-unfolding lowestFrom
-scan-next f a b zero h s e = absurd (h refl)
-scan-next f a b (suc n) h s e = let m : suc n - 1 ≡ n = omega arith in rw (e, s, add-one, m)
-
 -- four are right: on to the fifth
 pub scan-four : (f : ℕ → Bool) (a b n : ℕ) → 4 ≤ n → b ≡ a + 4 → (f a && f (a + 1) && f (a + 2) && f (a + 3)) ≡ true → lowestFrom f a n ≡ lowestFrom f b (n - 4)
 scan-four f a b n h s e =
@@ -90,12 +82,3 @@ scan-four f a b n h s e =
     scan-next f (a + 2) (a + 3) (n - 1 - 1) (omega arith) (omega arith) (third .1) ∙
     scan-next f (a + 3) b (n - 1 - 1 - 1) (omega arith) (omega arith) (fourth .1) ∙
     ap (lowestFrom f b) rest
-
--- it is wrong: it is the lowest
-pub scan-here : (f : ℕ → Bool) (a n : ℕ) → (n ≡ 0 → ⊥) → f a ≡ false → lowestFrom f a n ≡ At a
-scan-here f a n h e = lowest-at f a n a (omega arith) (omega arith) (λ i l u. absurd (omega arith)) e
-
--- none is left
-pub scan-end : (f : ℕ → Bool) (a n : ℕ) → n ≡ 0 → lowestFrom f a n ≡ Nowhere
-unfolding lowestFrom
-scan-end f a n e = rw e

@@ -7,7 +7,8 @@ use native.Mathlib.Omega.{arith}
 use borrow.Author.Needs.{needs}
 use Rattle.model.specs.Lines.{accessedUseful}
 use Rattle.taskfile.specs.File.{taskOf}
-use Rattle.regions.proofs.Runs.{few-blocks, union-more, time-more}
+use Rattle.taskfile.proofs.Accepted.{few-blocks}
+use Rattle.regions.proofs.Runs.{union-more, time-more}
 use Rattle.regions.proofs.longer.Statement.{statement}
 use Rattle.regions.proofs.longer.Tie as tie
 

@@ -9,7 +9,7 @@ use Rattle.model.specs.Regions.{loaded, regionLines, regionLength}
 use Rattle.model.proofs.Sets.{size-agree}
 use Rattle.lineset.specs.Members.{members}
 use Rattle.taskfile.specs.File.{taskOf}
-use Rattle.regions.proofs.Runs.{few-blocks}
+use Rattle.taskfile.proofs.Accepted.{few-blocks}
 use Rattle.regions.proofs.region_of.Statement.{statement}
 use Rattle.regions.proofs.region_of.Tie as tie
 

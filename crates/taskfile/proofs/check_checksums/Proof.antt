@@ -11,8 +11,9 @@ use Rattle.model.specs.declared.Place.{Place}
 use Rattle.model.specs.declared.Refusal.the-variants.{Checksum}
 use Rattle.model.specs.declared.Verdict.the-variants.{Accepted}
 use Rattle.block.specs.Blocks.{checksumRight}
+use Rattle.block.proofs.Blocks.{scan-next, scan-here, scan-end}
 use Rattle.taskfile.specs.File.{blocksIn}
-use Rattle.taskfile.proofs.Frames.{length-in, sumRight, ToLookAt, scan-next, scan-here, scan-end}
+use Rattle.taskfile.proofs.Frames.{length-in, sumRight, ToLookAt}
 use Rattle.taskfile.proofs.check_checksums.Statement.{statement}
 use Rattle.taskfile.proofs.check_checksums.Tie as tie
 

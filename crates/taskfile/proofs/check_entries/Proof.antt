@@ -11,7 +11,7 @@ use Rattle.model.specs.declared.Refusal.the-variants.{Block}
 use Rattle.model.specs.declared.Verdict.the-variants.{Accepted}
 use Rattle.block.specs.Blocks.{lowestFrom}
 use Rattle.taskfile.specs.File.{blockRight}
-use Rattle.taskfile.proofs.Frames.{scan-next, scan-here, scan-end}
+use Rattle.block.proofs.Blocks.{scan-next, scan-here, scan-end}
 use Rattle.taskfile.proofs.check_entries.Statement.{statement}
 use Rattle.taskfile.proofs.check_entries.Tie as tie
 

@@ -50,12 +50,9 @@ pub fn useful(file: &[u8], k: usize) -> UsefulLines
             lines: LineSet::empty(),
         };
     }
-    let mut sets = [0u64; 520];
-    let mut accessed = [0u64; 520];
-    reuse::edge_lines(file, &mut sets, &mut accessed);
     UsefulLines {
         verdict: Verdict::Accepted,
-        lines: edgesets::lines_at(&sets, k),
+        lines: reuse::useful_lines(file, k),
     }
 }
 

@@ -50,6 +50,17 @@ fn add_reads(words: &mut [u64; 8], file: &[u8], k: usize)
     }
 }
 
+// U(k).
+pub fn useful_lines(file: &[u8], k: usize) -> LineSet
+    requires { ⌜ (verdict (now file) ≡ Verdict.Accepted) × (k ≤ blockCount (taskOf (now file))) ⌝ }
+    ensures { λ r. ⌜ ((c : ℕ) → members r c ≡ Lines.useful (taskOf (now (file .entry))) k c) ⌝ }
+{
+    let mut useful = [0u64; 520];
+    let mut accessed = [0u64; 520];
+    edge_lines(file, &mut useful, &mut accessed);
+    edgesets::lines_at(&useful, k)
+}
+
 // U(k) for every edge k, and A(k) for every basic block k.
 pub fn edge_lines(file: &[u8], useful: &mut [u64; 520], accessed: &mut [u64; 520])
     requires { ⌜ (verdict (now file) ≡ Verdict.Accepted) × (length (now useful) ≡ 520) × (length (now accessed) ≡ 520) ⌝ }

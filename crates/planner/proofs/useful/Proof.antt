@@ -50,22 +50,19 @@ returns-2 c =
       rw (accepted, above) (set-words (λ d. false) (c .empty2 .result) (search (needs, fits-word)) (λ d h. c .empty2 .ensures d)),
     )
 
-edge-lines-requires : tie.Need-edge-lines-requires
-edge-lines-requires c κs = (sym (c .before .before .before .before .before .before .check .ensures) ∙ c .before .before .before .before .enum-told .given .1, refl, refl)
-
-lines-at-requires : tie.Need-lines-at-requires
-lines-at-requires c κs = search needs
+useful-lines-requires : tie.Need-useful-lines-requires
+useful-lines-requires c κs = (sym (c .before .before .before .before .check .ensures) ∙ c .before .before .enum-told .given .1, omega arith)
 
 returns-3 : tie.Need-returns-3
 unfolding usefulVerdict usefulWords
 returns-3 c =
-    let start = c .before .before .before .before .before .before .before .before .before .before .before in
-    let accepted = sym (c .before .before .before .before .before .before .before .before .before .check .ensures) ∙ c .before .before .before .before .before .before .before .enum-told .given .1 in
+    let start = c .before .before .before .before .before .before .before in
+    let accepted = sym (c .before .before .before .before .before .check .ensures) ∙ c .before .before .before .enum-told .given .1 in
     let within = le-leb (start .args .k) (blockCount (taskOf (start .args .file .now))) (omega arith) in (
       rw (accepted, within) refl,
       rw (accepted, within)
-          (set-words (lines.useful (taskOf (start .args .file .now)) (start .args .k)) (c .lines-at .result) (search (needs, fits-word))
-          (λ d h. c .lines-at .ensures d ∙ c .before .before .edge-lines .ensures .0 .lines (start .args .k) d (omega arith))),
+          (set-words (lines.useful (taskOf (start .args .file .now)) (start .args .k)) (c .useful-lines .result) (search (needs, fits-word))
+          (λ d h. c .useful-lines .ensures d)),
     )
 
 pub useful-spec : {M : Type 1} → statement M
@@ -80,6 +77,5 @@ useful-spec =
     block-count-requires
     empty-requires-2
     returns-2
-    edge-lines-requires
-    lines-at-requires
+    useful-lines-requires
     returns-3)

@@ -9,7 +9,7 @@ use borrow.Author.Needs.{needs}
 use Rattle.model.specs.Task.{blockCount}
 use Rattle.model.specs.Lines.{useful, accessedUseful}
 use Rattle.taskfile.specs.File.{taskOf}
-use Rattle.taskfile.proofs.Accepted.{accepted, block-count}
+use Rattle.taskfile.proofs.Accepted.{few-blocks}
 use Rattle.edgesets.specs.Edges.{linesAt}
 use Rattle.reuse.proofs.edge_lines.Statement.{statement}
 use Rattle.reuse.proofs.edge_lines.Tie as tie
@@ -36,7 +36,7 @@ returns c =
     let file = start .args .file .now in
     let walk = c .before .before .before .before .before .walk-reads in
     let settle = c .before .before .before .settle in
-    let most : blockCount (taskOf file) ≤ 64 = omega (arith, block-count file, accepted file (start .pre .0) .blocks-most) in
+    let most : blockCount (taskOf file) ≤ 64 = few-blocks file (start .pre .0) in
     let useful-at : (k d : ℕ) → k ≤ blockCount (taskOf file) → linesAt (settle .last .0) k d ≡ useful (taskOf file) k d =
     λ k d h. settle .ensures .1 k d (omega arith) ∙ walk .ensures .0 .lines k d h in (
       record { long = settle .ensures .0; lines = useful-at },

@@ -18,7 +18,7 @@ use Rattle.model.specs.declared.Refusal.{Refusal}
 use Rattle.model.specs.declared.Refusal.the-variants.{NoPlacement}
 use Rattle.model.specs.declared.Verdict.{Verdict}
 use Rattle.model.specs.declared.Verdict.the-variants.{Accepted, Refused}
-use Rattle.model.proofs.Verdicts.{never-both}
+use Rattle.model.proofs.Verdicts.{never-both, both-accepted}
 use Rattle.model.proofs.Regions.{accepted-well-formed}
 use Rattle.model.proofs.Places.{placeIn, then-most, pricing-most}
 use Rattle.taskfile.specs.File.{verdict, taskOf}
@@ -98,13 +98,10 @@ module _ (file points : List ℕ) where
   parts : blockVerdict file points ≡ Accepted
       → (verdict file ≡ Accepted) × (readVerdict points ≡ Accepted) × (pricing (taskOf file) (chosen (planOf points)) ≡ Accepted)
   unfolding blockVerdict
-  parts e = go (verdict file) (readVerdict points) e
-    where
-      go : (v w : Verdict) → andThen v (andThen w (pricing (taskOf file) (chosen (planOf points)))) ≡ Accepted
-          → (v ≡ Accepted) × (w ≡ Accepted) × (pricing (taskOf file) (chosen (planOf points)) ≡ Accepted)
-      go Accepted Accepted q = (refl, refl, q)
-      go Accepted (Refused x) q = absurd (never-both (sym q))
-      go (Refused x) w q = absurd (never-both (sym q))
+  parts e =
+      let first = both-accepted (verdict file) (andThen (readVerdict points) (pricing (taskOf file) (chosen (planOf points)))) e in
+      let second = both-accepted (readVerdict points) (pricing (taskOf file) (chosen (planOf points))) (first .1) in
+      (first .0, second .0, second .1)
 
   pub block-most : placeIn (blockVerdict file points) ≤ 97
   unfolding blockVerdict

@@ -1,10 +1,10 @@
--- A verdict accepts or refuses, and never both.
+-- A verdict accepts or refuses, and never both; two in order accept if each does.
 -- Assumes nothing.
 use Prim.Native.Nat.{ℕ}
-use mathlib.Core.Path.{_≡_, refl}
+use mathlib.Core.Path.{_≡_, refl, sym}
 use mathlib.Core.Bool.{true, false≢true}
 use native.Mathlib.Omega.{arith}
-use Rattle.model.specs.Answers.{accepted}
+use Rattle.model.specs.Answers.{accepted, andThen}
 use Rattle.model.specs.declared.Refusal.{Refusal}
 use Rattle.model.specs.declared.Verdict.{Verdict}
 use Rattle.model.specs.declared.Verdict.the-variants.{Accepted, Refused}
@@ -15,3 +15,7 @@ never-both e = let z : _≡_ {A = ℕ} 0 1 = cc in omega arith
 pub is-accepted : (v : Verdict) → accepted v ≡ true → v ≡ Accepted
 is-accepted Accepted e = refl
 is-accepted (Refused x) e = absurd (false≢true e)
+
+pub both-accepted : (u v : Verdict) → andThen u v ≡ Accepted → (u ≡ Accepted) × (v ≡ Accepted)
+both-accepted Accepted v e = (refl, e)
+both-accepted (Refused x) v e = absurd (never-both (sym e))

@@ -7,7 +7,7 @@ use Rattle.model.specs.Planning.{chosen}
 use Rattle.model.specs.declared.Refusal.{Refusal}
 use Rattle.model.specs.declared.Verdict.{Verdict}
 use Rattle.model.specs.declared.Verdict.the-variants.{Accepted, Refused}
-use Rattle.model.proofs.Verdicts.{never-both}
+use Rattle.model.proofs.Verdicts.{never-both, both-accepted}
 use Rattle.taskfile.specs.File.{verdict, taskOf}
 use Rattle.planvalue.proofs.Verdicts.{count-accepted}
 use Rattle.planblock.specs.Plans.{readVerdict, planOf}
@@ -17,18 +17,12 @@ use borrow.Author.Needs.{needs}
 use Rattle.planner.proofs.price_block.Statement.{statement}
 use Rattle.planner.proofs.price_block.Tie as tie
 
--- two verdicts before a third
-
+-- a refusal of two verdicts before a third
 before-refused : (u v w : Verdict) (x : Refusal) → andThen u v ≡ Refused x
     → (andThen u (andThen v w) ≡ Refused x) × ((accepted u && not (accepted v)) ≡ accepted u)
 before-refused Accepted Accepted w x e = absurd (never-both e)
 before-refused Accepted (Refused y) w x e = (e, refl)
 before-refused (Refused y) v w x e = (e, refl)
-
-before-accepted : (u v : Verdict) → andThen u v ≡ Accepted → (u ≡ Accepted) × (v ≡ Accepted)
-before-accepted Accepted Accepted e = (refl, refl)
-before-accepted Accepted (Refused y) e = absurd (never-both (sym e))
-before-accepted (Refused y) v e = absurd (never-both (sym e))
 
 check-requires : tie.Need-check-requires
 check-requires c κs = search needs
@@ -75,7 +69,7 @@ price-points-requires c κs =
     let check = c .before .before .before .before .check .ensures in
     let read = c .before .before .before .read .ensures in
     let earlier = rw (check, read .0) at (sym (c .before .before .earlier .ensures) ∙ c .enum-told .given .1) in
-    let both = before-accepted (verdict file) (readVerdict block) earlier in
+    let both = both-accepted (verdict file) (readVerdict block) earlier in
     rw (read .1, both .1) (both .0, (count-accepted (planOf block) (store-back block (both .1) .0), zeros-after block))
 
 returns-2 : tie.Need-returns-2
@@ -88,7 +82,7 @@ returns-2 c =
     let check = priced .before .before .before .before .before .check .ensures in
     let read = priced .before .before .before .before .read .ensures in
     let earlier = rw (check, read .0) at (sym (priced .before .before .before .earlier .ensures) ∙ priced .before .enum-told .given .1) in
-    let both = before-accepted (verdict file) (readVerdict block) earlier in
+    let both = both-accepted (verdict file) (readVerdict block) earlier in
     let answers = rw (read .1, both .1) at (priced .price-points .ensures) in
     rw (both .0, both .1) (answers .0, refl, answers .1)
 

@@ -13,9 +13,9 @@ pub fn refusal_number(refusal: Refusal) -> u32
     match refusal {
         Refusal::Length => 1,
         Refusal::Checksum(_) => 2,
-        Refusal::Header => 3,
+        Refusal::WrongHeader => 3,
         Refusal::BlockCount => 4,
-        Refusal::Block(_) => 5,
+        Refusal::WrongBlock(_) => 5,
         Refusal::NoPlacement => 6,
         Refusal::Argument(_) => 7,
         Refusal::AboveLimit(_) => 8,
@@ -30,9 +30,9 @@ pub fn refusal_place(refusal: Refusal) -> usize
     match refusal {
         Refusal::Length => 0,
         Refusal::Checksum(block) => block,
-        Refusal::Header => 0,
+        Refusal::WrongHeader => 0,
         Refusal::BlockCount => 0,
-        Refusal::Block(block) => block,
+        Refusal::WrongBlock(block) => block,
         Refusal::NoPlacement => 0,
         Refusal::Argument(index) => index,
         Refusal::AboveLimit(region) => region,

@@ -13,7 +13,7 @@ use Rattle.model.specs.Answers.{number, place, andThen, refusedAt, prici
 use Rattle.model.specs.declared.Place.{Place}
 use Rattle.model.specs.declared.Place.the-variants.{Nowhere, At}
 use Rattle.model.specs.declared.Refusal.{Refusal}
-use Rattle.model.specs.declared.Refusal.the-variants.{Length, Checksum, Header, BlockCount, Block, NoPlacement, Argument, AboveLimit, Output}
+use Rattle.model.specs.declared.Refusal.the-variants.{Length, Checksum, WrongHeader, BlockCount, WrongBlock, NoPlacement, Argument, AboveLimit, Output}
 use Rattle.model.specs.declared.Verdict.{Verdict}
 use Rattle.model.specs.declared.Verdict.the-variants.{Accepted, Refused}
 
@@ -25,9 +25,9 @@ placeIn (Refused r) = place r
 pub number-most : (r : Refusal) → number r ≤ 9
 number-most Length = omega arith
 number-most (Checksum k) = omega arith
-number-most Header = omega arith
+number-most WrongHeader = omega arith
 number-most BlockCount = omega arith
-number-most (Block k) = omega arith
+number-most (WrongBlock k) = omega arith
 number-most NoPlacement = omega arith
 number-most (Argument i) = omega arith
 number-most (AboveLimit i) = omega arith

@@ -8,7 +8,7 @@ use Rattle.model.specs.Regions.{regionAbove}
 use Rattle.model.specs.declared.Place.{Place}
 use Rattle.model.specs.declared.Place.the-variants.{Nowhere, At}
 use Rattle.model.specs.declared.Refusal.{Refusal}
-use Rattle.model.specs.declared.Refusal.the-variants.{Length, Checksum, Header, BlockCount, Block, NoPlacement, Argument, AboveLimit, Output}
+use Rattle.model.specs.declared.Refusal.the-variants.{Length, Checksum, WrongHeader, BlockCount, WrongBlock, NoPlacement, Argument, AboveLimit, Output}
 use Rattle.model.specs.declared.Verdict.{Verdict}
 use Rattle.model.specs.declared.Verdict.the-variants.{Accepted, Refused}
 
@@ -16,9 +16,9 @@ use Rattle.model.specs.declared.Verdict.the-variants.{Accepted, Refused}
 abbrev pub number : Refusal → ℕ
 number Length = 1
 number (Checksum k) = 2
-number Header = 3
+number WrongHeader = 3
 number BlockCount = 4
-number (Block k) = 5
+number (WrongBlock k) = 5
 number NoPlacement = 6
 number (Argument i) = 7
 number (AboveLimit i) = 8
@@ -28,9 +28,9 @@ number Output = 9
 abbrev pub place : Refusal → ℕ
 place Length = 0
 place (Checksum k) = k
-place Header = 0
+place WrongHeader = 0
 place BlockCount = 0
-place (Block k) = k
+place (WrongBlock k) = k
 place NoPlacement = 0
 place (Argument i) = i
 place (AboveLimit i) = i

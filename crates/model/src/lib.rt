@@ -10,9 +10,9 @@ pub enum Line {
 pub enum Refusal {
     Length,
     Checksum(usize),
-    Header,
+    WrongHeader,
     BlockCount,
-    Block(usize),
+    WrongBlock(usize),
     NoPlacement,
     Argument(usize),
     AboveLimit(usize),

@@ -13,7 +13,7 @@ use mir.Val.{Fits}
 use borrow.Author.Tests.{eqb-true, eq-eqb, le-ltb}
 use Rattle.model.specs.Answers.{accepted}
 use Rattle.model.specs.declared.Plan.{Plan}
-use Rattle.model.specs.declared.Refusal.the-variants.{Length, Checksum, Block as WrongBlock, Output}
+use Rattle.model.specs.declared.Refusal.the-variants.{Length, Checksum, WrongBlock, Output}
 use Rattle.model.specs.declared.Verdict.the-variants.{Accepted, Refused}
 use Rattle.model.proofs.Verdicts.{never-both, is-accepted}
 use Rattle.model.proofs.Lists.{and-split}

@@ -7,7 +7,7 @@ use mathlib.Core.List.{List}
 use lib.Dec.{eqb}
 use lib.ListN.{length}
 use borrow.Author.Tests.{lt-leb}
-use Rattle.model.specs.declared.Refusal.the-variants.{Length, Checksum, Block as WrongBlock}
+use Rattle.model.specs.declared.Refusal.the-variants.{Length, Checksum, WrongBlock}
 use Rattle.model.specs.declared.Verdict.the-variants.{Accepted, Refused}
 use Rattle.model.proofs.Places.{placeIn}
 use Rattle.block.specs.Bytes.{field}

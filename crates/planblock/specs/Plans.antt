@@ -8,7 +8,7 @@ use lib.Dec.{eqb}
 use lib.ListN.{length, getD, take, replicate}
 use Rattle.model.specs.Answers.{accepted, onAccepted}
 use Rattle.model.specs.declared.Plan.{Plan}
-use Rattle.model.specs.declared.Refusal.the-variants.{Length, Checksum, Block as WrongBlock, Output}
+use Rattle.model.specs.declared.Refusal.the-variants.{Length, Checksum, WrongBlock, Output}
 use Rattle.model.specs.declared.Verdict.{Verdict}
 use Rattle.model.specs.declared.Verdict.the-variants.{Accepted, Refused}
 use Rattle.block.specs.Bytes.{le, les, field, fields}

@@ -192,11 +192,11 @@ pub fn read(bytes: &[u8]) -> PlanRead
         return refused(Refusal::Checksum(0));
     }
     if 63 < block::u16_at(bytes, 4) {
-        return refused(Refusal::Block(0));
+        return refused(Refusal::WrongBlock(0));
     }
     let plan = plan_of(bytes);
     if !plan_right(bytes, plan) {
-        return refused(Refusal::Block(0));
+        return refused(Refusal::WrongBlock(0));
     }
     PlanRead {
         verdict: Verdict::Accepted,

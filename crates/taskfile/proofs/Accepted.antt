@@ -15,7 +15,7 @@ use Rattle.model.specs.Lines.{preempterReads, blockAt}
 use Rattle.model.specs.declared.Place.{Place}
 use Rattle.model.specs.declared.Place.the-variants.{Nowhere, At}
 use Rattle.model.specs.Answers.{refusedAt}
-use Rattle.model.specs.declared.Refusal.the-variants.{Length, Checksum, Header as WrongHeader, BlockCount, Block as WrongBlock}
+use Rattle.model.specs.declared.Refusal.the-variants.{Length, Checksum, WrongHeader, BlockCount, WrongBlock}
 use Rattle.model.specs.declared.Verdict.the-variants.{Accepted, Refused}
 use Rattle.model.proofs.Verdicts.{never-both}
 use Rattle.model.proofs.Lists.{and-split}

@@ -11,7 +11,7 @@ use borrow.Author.Tests.{leb-true, eqb-true}
 use Rattle.model.specs.Answers.{refusedAt}
 use Rattle.model.specs.declared.Place.{Place}
 use Rattle.model.specs.declared.Place.the-variants.{At}
-use Rattle.model.specs.declared.Refusal.the-variants.{Length, Checksum, Header as WrongHeader, BlockCount, Block as WrongBlock}
+use Rattle.model.specs.declared.Refusal.the-variants.{Length, Checksum, WrongHeader, BlockCount, WrongBlock}
 use Rattle.model.specs.declared.Verdict.the-variants.{Accepted, Refused}
 use Rattle.model.proofs.Lists.{and-split}
 use Rattle.model.proofs.Places.{placeIn, at-most}

@@ -8,7 +8,7 @@ use lib.Dec.{eqb, leb, ltb}
 use lib.ListN.{length, take, drop}
 use Rattle.model.specs.Task.{Block, Preempter, Task, blockCount}
 use Rattle.model.specs.Answers.{refusedAt}
-use Rattle.model.specs.declared.Refusal.the-variants.{Length, Checksum, Header as WrongHeader, BlockCount, Block as WrongBlock}
+use Rattle.model.specs.declared.Refusal.the-variants.{Length, Checksum, WrongHeader, BlockCount, WrongBlock}
 use Rattle.model.specs.declared.Verdict.{Verdict}
 use Rattle.model.specs.declared.Verdict.the-variants.{Accepted, Refused}
 use Rattle.block.specs.Bytes.{le, les, field, fields}

@@ -95,12 +95,12 @@ fn check_checksums(file: &[u8]) -> Verdict
 
 fn check_header(block: &[u8]) -> Verdict
     requires { ⌜ length (now block) ≡ 512 ⌝ }
-    ensures { λ r. ⌜ r ≡ cond (headerRight (now (block .entry))) Verdict.Accepted (Verdict.Refused Refusal.Header) ⌝ }
+    ensures { λ r. ⌜ r ≡ cond (headerRight (now (block .entry))) Verdict.Accepted (Verdict.Refused Refusal.WrongHeader) ⌝ }
 {
     if header_right(block) {
         Verdict::Accepted
     } else {
-        Verdict::Refused(Refusal::Header)
+        Verdict::Refused(Refusal::WrongHeader)
     }
 }
 
@@ -141,7 +141,7 @@ fn in_range(blocks: u16, preempters: u16, lines: u16) -> bool
 // Refuses a file that has not the blocks that its header counts, or else at its lowest wrong block.
 fn check_blocks(file: &[u8]) -> Verdict
     requires { ⌜ 512 ≤ length (now file) ⌝ }
-    ensures { λ r. ⌜ (let f = now (file .entry) in r ≡ cond (eqb (blocksIn f) (1 + header f .blocks + header f .preempters)) (refusedAt (lowestFrom (blockRight f) 1 (header f .blocks + header f .preempters)) Refusal.Block Verdict.Accepted) (Verdict.Refused Refusal.BlockCount)) ⌝ }
+    ensures { λ r. ⌜ (let f = now (file .entry) in r ≡ cond (eqb (blocksIn f) (1 + header f .blocks + header f .preempters)) (refusedAt (lowestFrom (blockRight f) 1 (header f .blocks + header f .preempters)) Refusal.WrongBlock Verdict.Accepted) (Verdict.Refused Refusal.BlockCount)) ⌝ }
 {
     let blocks = block::u16_at(file, 2);
     let preempters = block::u16_at(file, 4);
@@ -155,13 +155,13 @@ fn check_blocks(file: &[u8]) -> Verdict
 // Refuses at the lowest wrong block after the header.
 fn check_entries(file: &[u8], blocks: u16, count: usize) -> Verdict
     requires { ⌜ (blocks ≡ header (now file) .blocks) × (count * 512 + 512 ≤ length (now file)) × (count < 2 ^ 32) ⌝ }
-    ensures { λ r. ⌜ r ≡ refusedAt (lowestFrom (blockRight (now (file .entry))) 1 count) Refusal.Block Verdict.Accepted ⌝ }
+    ensures { λ r. ⌜ r ≡ refusedAt (lowestFrom (blockRight (now (file .entry))) 1 count) Refusal.WrongBlock Verdict.Accepted ⌝ }
 {
     let mut left = count;
     while left != 0 {
         let k = count - left + 1;
         if !block_right(file, blocks, k) {
-            return Verdict::Refused(Refusal::Block(k));
+            return Verdict::Refused(Refusal::WrongBlock(k));
         }
         left -= 1;
     }

@@ -5,7 +5,7 @@ use mathlib.Core.Bool.{cond}
 use borrow.Author.Tests.{eq-eqb, ne-eqb, not-true, not-false}
 use native.Mathlib.Omega.{arith}
 use borrow.Author.Needs.{needs}
-use Rattle.model.specs.declared.Refusal.the-variants.{Block}
+use Rattle.model.specs.declared.Refusal.the-variants.{WrongBlock}
 use Rattle.model.specs.declared.Verdict.the-variants.{Accepted, Refused}
 use Rattle.planblock.specs.Plans.{readVerdict, planRight, planOf}
 use Rattle.planblock.proofs.Verdicts.{count-wrong}
@@ -13,7 +13,7 @@ use Rattle.planblock.proofs.read.Statement.{statement}
 use Rattle.planblock.proofs.read.Tie as tie
 
 -- what is left to test of a block whose checksum is right
-body : (c : tie.Else2) → let bs = c .before .before .before .before .args .bytes .now in readVerdict bs ≡ cond (planRight bs) Accepted (Refused (Block 0))
+body : (c : tie.Else2) → let bs = c .before .before .before .before .args .bytes .now in readVerdict bs ≡ cond (planRight bs) Accepted (Refused (WrongBlock 0))
 unfolding readVerdict
 body c = rw (eq-eqb _ _ (c .before .before .if1 .left), ← c .before .checksum-right .ensures, not-false (c .before .checksum-right .result) (c .if2 .left))
 

@@ -10,7 +10,7 @@ use borrow.Author.Tests.{not-true, not-false}
 use Rattle.model.specs.Answers.{refusedAt, andThen}
 use Rattle.model.specs.declared.Place.{Place}
 use Rattle.model.specs.declared.Place.the-variants.{Nowhere, At}
-use Rattle.model.specs.declared.Refusal.the-variants.{Checksum, Header}
+use Rattle.model.specs.declared.Refusal.the-variants.{Checksum, WrongHeader}
 use Rattle.model.specs.declared.Verdict.{Verdict}
 use Rattle.model.specs.declared.Verdict.the-variants.{Accepted, Refused}
 use Rattle.block.specs.Blocks.{checksumRight, lowestFrom}
@@ -22,13 +22,13 @@ use Rattle.taskfile.proofs.check.Tie as tie
 
 -- the answers of two rows, and what comes after them
 rows : (sum : Place) (head : Bool) (sums header late second answer : Verdict) → sums ≡ refusedAt sum Checksum Accepted
-    → header ≡ cond head Accepted (Refused Header) → second ≡ andThen header late → answer ≡ andThen sums second
-    → answer ≡ refusedAt sum Checksum (cond head late (Refused Header))
+    → header ≡ cond head Accepted (Refused WrongHeader) → second ≡ andThen header late → answer ≡ andThen sums second
+    → answer ≡ refusedAt sum Checksum (cond head late (Refused WrongHeader))
 rows sum head sums header late second answer s h b a = rw (a, s, b, h) (decided sum head)
   where
     decided : (p : Place) (t : Bool)
-        → andThen (refusedAt p Checksum Accepted) (andThen (cond t Accepted (Refused Header)) late)
-        ≡ refusedAt p Checksum (cond t late (Refused Header))
+        → andThen (refusedAt p Checksum Accepted) (andThen (cond t Accepted (Refused WrongHeader)) late)
+        ≡ refusedAt p Checksum (cond t late (Refused WrongHeader))
     decided Nowhere true = refl
     decided Nowhere false = refl
     decided (At k) t = refl

@@ -7,7 +7,7 @@ use native.Mathlib.Omega.{arith}
 use borrow.Author.Tests.{not-true, not-false}
 use Rattle.model.specs.Answers.{refusedAt}
 use Rattle.model.specs.declared.Place.{Place}
-use Rattle.model.specs.declared.Refusal.the-variants.{Block}
+use Rattle.model.specs.declared.Refusal.the-variants.{WrongBlock}
 use Rattle.model.specs.declared.Verdict.the-variants.{Accepted}
 use Rattle.block.specs.Blocks.{lowestFrom}
 use Rattle.taskfile.specs.File.{blockRight}
@@ -38,7 +38,7 @@ returns : tie.Need-returns Inv-loop μ-loop
 returns c =
     let head = c .before .before .before in
     sym
-    (ap (λ (p : Place). refusedAt p Block Accepted)
+    (ap (λ (p : Place). refusedAt p WrongBlock Accepted)
     (head .loop .inv .1 ∙
     scan-here (blockRight (head .before .before .args .file .now)) _ _ (c .before .before .loop-test .taken)
     (sym (c .before .block-right .ensures) ∙ not-true _ (c .if1 .taken))))
@@ -62,7 +62,7 @@ returns-2 : tie.Need-returns-2 Inv-loop μ-loop
 returns-2 c =
     let head = c .before in
     sym
-    (ap (λ (p : Place). refusedAt p Block Accepted)
+    (ap (λ (p : Place). refusedAt p WrongBlock Accepted)
     (head .loop .inv .1 ∙ scan-end (blockRight (head .before .before .args .file .now)) _ _ (c .loop-test .left)))
 
 pub check-entries-spec : {M : Type 1} → statement M

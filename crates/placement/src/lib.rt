@@ -50,13 +50,7 @@ pub fn place(table: &[u64; 4096], n: usize) -> Placement
             points: [0; 64],
         };
     }
-    found(cost, follow(&nexts, n))
-}
-
-// What is answered of a list.
-fn found(cost: u64, list: Points) -> Placement
-    ensures { λ r. ⌜ r ≡ record { found = true; cost = cost; count = list .count; points = list .points } ⌝ }
-{
+    let list = follow(&nexts, n);
     let points = list.points;
     Placement {
         found: true,

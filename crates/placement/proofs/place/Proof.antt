@@ -56,16 +56,12 @@ follow-requires c κs =
     let start = c .before .before .before .before .before in
     (start .pre .0, start .pre .1, rising (c .before .before .before .before .choose-all .ensures))
 
-found-requires : tie.Need-found-requires
-found-requires c κs = search needs
-
 returns-2 : tie.Need-returns-2
 returns-2 c =
     let start = c .before .before .before .before .before .before .before in
-    rw (c .found .ensures)
-    (somewhere (c .before .before .before .before .before .before .choose-all .ensures) (start .pre .0) (c .before .before .before .if1 .left) (c .before .follow .ensures))
+    somewhere (c .before .before .before .before .before .before .choose-all .ensures) (start .pre .0) (c .before .before .before .if1 .left) (c .before .follow .ensures)
 
 pub place-spec : {M : Type 1} → statement M
 place-spec =
     tie.close
-    (tie.spec choose-all-requires array-read-cost returns follow-requires found-requires returns-2)
+    (tie.spec choose-all-requires array-read-cost returns follow-requires returns-2)

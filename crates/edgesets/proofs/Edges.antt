@@ -1,7 +1,7 @@
--- The sets of all edges in one array, word by word: a line's digit, and what a store to its word does to the sets.
+-- Sets of lines in one array, word by word: a line's digit, and what a store to its word does to the sets.
 -- Assumes nothing.
-use Prim.Native.Nat.{ℕ, _+_, _-_, _*_, _/_, _%_, _^_, _≤_, _<_}
-use mathlib.Core.Path.{_≡_, refl, sym, ap, ap₂, _∙_}
+use Prim.Native.Nat.{ℕ, zero, _+_, _-_, _*_, _/_, _%_, _^_, _≤_, _<_}
+use mathlib.Core.Path.{_≡_, sym, refl, ap, _∙_}
 use mathlib.Core.Bool.{Bool, true, false, _&&_, _||_, and-false, and-true, or-false}
 use mathlib.Core.Logic.{by-cases}
 use mathlib.Core.List.{List}
@@ -9,15 +9,15 @@ use native.Mathlib.Omega.{arith}
 use native.Mathlib.Decide.{decLt, ℕ-discrete}
 use lib.Bits.{bitAnd, bitOr}
 use lib.Dec.{eqb}
-use lib.ListN.{length, getD, set, take, drop, length-take, length-drop}
-use lib.Seq.{drop-set-add, drop-set-lt, take-set-lt, take-set-le, getD-take, getD-drop}
+use lib.ListN.{length, getD, set, take, drop, replicate, length-take, length-drop, List·getD-eq-default}
+use lib.Seq.{drop-set-add, drop-set-lt, take-set-lt, take-set-le, getD-take, getD-drop, ext-getD}
 use borrow.Author.Tests.{eq-eqb, ne-eqb}
 use mir.Val.{boolByte}
 use Rattle.model.specs.Sets.{digit, inWords}
-use Rattle.model.proofs.Digits.{digit-of-zero, digit-or, digit-and}
+use Rattle.model.proofs.Digits.{digit-of-zero, digit-or}
 use Rattle.model.proofs.Sets.{in-eight-above}
-use Rattle.lineset.proofs.Laws.{in-changed}
-use Rattle.edgesets.specs.Edges.{wordsAt, linesAt, EdgeSets}
+use Rattle.lineset.proofs.Laws.{zeros-at, in-changed}
+use Rattle.edgesets.specs.Edges.{wordsAt, linesAt}
 
 module _ (sets : List ℕ) (k w v : ℕ) (h : w < 8) where
   same-edge : wordsAt (set sets (k * 8 + w) v) k ≡ set (wordsAt sets k) w v
@@ -38,7 +38,7 @@ pub word-at : (sets : List ℕ) (k w : ℕ) → w < 8 → getD (wordsAt sets k) 
 unfolding wordsAt
 word-at sets k w h = getD-take 8 (drop (k * 8) sets) w 0 h ∙ getD-drop (k * 8) sets w 0
 
-pub eight-at : (sets : List ℕ) (k : ℕ) → length sets ≡ 520 → k < 65 → length (wordsAt sets k) ≡ 8
+pub eight-at : (sets : List ℕ) (k : ℕ) → length sets ≡ 1048 → k < 131 → length (wordsAt sets k) ≡ 8
 unfolding wordsAt
 eight-at sets k len h = omega (arith, length-take 8 (drop (k * 8) sets), length-drop (k * 8) sets)
 
@@ -47,35 +47,39 @@ pub line-at : (sets : List ℕ) (k d : ℕ) → d < 512 → linesAt sets k d ≡
 unfolding inWords
 line-at sets k d h = rw (word-at sets k (d / 64) (omega arith)) refl
 
-pub no-line : (sets : List ℕ) → length sets ≡ 520 → (k d : ℕ) → k < 65 → 512 ≤ d → linesAt sets k d ≡ false
+pub no-line : (sets : List ℕ) → length sets ≡ 1048 → (k d : ℕ) → k < 131 → 512 ≤ d → linesAt sets k d ≡ false
 no-line sets len k d h l = in-eight-above (wordsAt sets k) (eight-at sets k len h) d l
 
-pub no-lines : (sets : List ℕ) → length sets ≡ 520 → ((i : ℕ) → i < 520 → getD sets i 0 ≡ 0) → EdgeSets 64 (λ k c. false) sets
-no-lines sets len z =
-    record {
-      long = len;
-      lines = λ k c h. by-cases (decLt c 512)
-          (λ l. line-at sets k c l ∙ rw (z (k * 8 + c / 64) (omega arith)) (digit-of-zero (c % 64)))
-          (λ l. no-line sets len k c (omega arith) (omega arith));
-    }
+-- an array of zeros holds no line
+pub no-lines : (n k d : ℕ) → linesAt (replicate n 0) k d ≡ false
+unfolding inWords wordsAt
+no-lines n k d = rw (zero-at (d / 64)) (digit-of-zero (d % 64))
+  where
+    zero-at : (w : ℕ) → getD (take 8 (drop (k * 8) (replicate n 0))) w 0 ≡ zero
+    zero-at w =
+        by-cases (decLt w 8) (λ h. getD-take 8 (drop (k * 8) (replicate n 0)) w 0 h ∙ getD-drop (k * 8) (replicate n 0) w 0 ∙ zeros-at n (k * 8 + w))
+        (λ h. List·getD-eq-default (take 8 (drop (k * 8) (replicate n 0))) 0 {n = w} (omega (arith, length-take {A = ℕ} 8 (drop (k * 8) (replicate n 0)))))
 
--- where each word is the common part of two, each set is
-pub in-common : (xs ys rs : List ℕ) → length xs ≡ 520 → length rs ≡ 520 → ((i : ℕ) → getD rs i 0 ≡ bitAnd (getD xs i 0) (getD ys i 0))
-    → (k d : ℕ) → k < 65 → linesAt rs k d ≡ (linesAt xs k d && linesAt ys k d)
-in-common xs ys rs ex er each k d h =
-    by-cases (decLt d 512)
-    (λ l.
-    line-at rs k d l ∙ rw (each (k * 8 + d / 64)) (digit-and (getD xs (k * 8 + d / 64) 0) (getD ys (k * 8 + d / 64) 0) (d % 64)) ∙
-    sym (ap₂ _&&_ (line-at xs k d l) (line-at ys k d l)))
-    (λ l.
-    no-line rs er k d h (omega arith) ∙ sym (ap (λ (x : Bool). x && linesAt ys k d) (no-line xs ex k d h (omega arith))))
+-- two arrays with the same words of set k
+pub same-set : (xs ys : List ℕ) (k : ℕ) → length xs ≡ length ys → ((w : ℕ) → w < 8 → getD xs (k * 8 + w) 0 ≡ getD ys (k * 8 + w) 0)
+    → (d : ℕ) → linesAt xs k d ≡ linesAt ys k d
+unfolding wordsAt
+same-set xs ys k e h d = ap (λ (ws : List ℕ). inWords ws d) (ext-getD 0 (wordsAt xs k) (wordsAt ys k) long each)
+  where
+    long : length (wordsAt xs k) ≡ length (wordsAt ys k)
+    long = simp (length-take, length-drop, e)
+
+    each : (w : ℕ) → w < length (wordsAt xs k) → getD (wordsAt xs k) w 0 ≡ getD (wordsAt ys k) w 0
+    each w l =
+        let small : w < 8 = omega (arith, length-take 8 (drop (k * 8) xs)) in
+        word-at xs k w small ∙ h w small ∙ sym (word-at ys k w small)
 
 -- a bit, shifted to the line's digit, is joined with the line's word of edge k
-pub edge-changed : (op : ℕ → ℕ → ℕ) (f : Bool → Bool → Bool) → ((a b j : ℕ) → digit (op a b) j ≡ f (digit a j) (digit b j))
-    → ((x : Bool) → f x false ≡ x) → (b : Bool) (sets : List ℕ) (k line : ℕ) → length sets ≡ 520 → k < 65 → line < 512 → (e d : ℕ)
+pub set-changed : (op : ℕ → ℕ → ℕ) (f : Bool → Bool → Bool) → ((a b j : ℕ) → digit (op a b) j ≡ f (digit a j) (digit b j))
+    → ((x : Bool) → f x false ≡ x) → (b : Bool) (sets : List ℕ) (k line : ℕ) → length sets ≡ 1048 → k < 131 → line < 512 → (e d : ℕ)
     → linesAt (set sets (k * 8 + line / 64) (op (getD sets (k * 8 + line / 64) 0) (boolByte b * 2 ^ bitAnd line 63 % 2 ^ 64))) e d
     ≡ f (linesAt sets e d) (b && eqb d line && eqb e k)
-edge-changed op f dig stays b sets k line len hk hl e d = go (ℕ-discrete e k)
+set-changed op f dig stays b sets k line len hk hl e d = go (ℕ-discrete e k)
   where
     v : ℕ
     v = op (getD sets (k * 8 + line / 64) 0) (boolByte b * 2 ^ bitAnd line 63 % 2 ^ 64)
@@ -86,7 +90,7 @@ edge-changed op f dig stays b sets k line len hk hl e d = go (ℕ-discrete e k)
         (in-changed op f dig stays b (wordsAt sets k) line d (eight-at sets k len hk) hl)
     go (no n) = rw (other-edge sets k (line / 64) v (omega arith) e n, ne-eqb e k n, and-false) (sym (stays _))
 
-pub edge-added : (sets : List ℕ) (k line : ℕ) → length sets ≡ 520 → k < 65 → line < 512 → (e d : ℕ)
+pub set-added : (sets : List ℕ) (k line : ℕ) → length sets ≡ 1048 → k < 131 → line < 512 → (e d : ℕ)
     → linesAt (set sets (k * 8 + line / 64) (bitOr (getD sets (k * 8 + line / 64) 0) (1 * 2 ^ bitAnd line 63 % 2 ^ 64))) e d
     ≡ (linesAt sets e d || eqb d line && eqb e k)
-edge-added = edge-changed bitOr _||_ digit-or or-false true
+set-added = set-changed bitOr _||_ digit-or or-false true

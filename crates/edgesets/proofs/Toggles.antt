@@ -17,7 +17,7 @@ use mir.Val.{boolByte}
 use Rattle.model.specs.Sets.{digit}
 use Rattle.model.proofs.Digits.{digit-xor}
 use Rattle.edgesets.specs.Edges.{linesAt, toggledAt}
-use Rattle.edgesets.proofs.Edges.{line-at, no-line, edge-changed}
+use Rattle.edgesets.proofs.Edges.{line-at, no-line, same-set}
 
 -- ---- the exclusive or
 
@@ -87,10 +87,11 @@ unfolding toggledAt xor
 toggled-none sets zero d h = h 0 (omega arith)
 toggled-none sets (suc k) d h = rw (h (suc k) (omega arith), toggled-none sets k d (λ e l. h e (omega arith))) refl
 
-pub toggled-above : (sets : List ℕ) → length sets ≡ 520 → (k d : ℕ) → k < 65 → 512 ≤ d → toggledAt sets k d ≡ false
+pub toggled-above : (sets : List ℕ) → length sets ≡ 1048 → (k d : ℕ) → k < 131 → 512 ≤ d → toggledAt sets k d ≡ false
 toggled-above sets len k d h l = toggled-none sets k d (λ e m. no-line sets len e d (omega arith) l)
 
-toggled-more : (sets sets′ : List ℕ) (a d : ℕ) (q : Bool) → ((e : ℕ) → linesAt sets′ e d ≡ xor (linesAt sets e d) (q && eqb e a))
+-- a line that is toggled in set a, if q, is toggled at every edge from a on
+pub toggled-more : (sets sets′ : List ℕ) (a d : ℕ) (q : Bool) → ((e : ℕ) → linesAt sets′ e d ≡ xor (linesAt sets e d) (q && eqb e a))
     → (k : ℕ) → toggledAt sets′ k d ≡ xor (toggledAt sets k d) (q && leb a k)
 unfolding toggledAt
 toggled-more sets sets′ a d q h zero = h 0 ∙ ap (λ (x : Bool). xor (linesAt sets 0 d) (q && x)) (first-edge a)
@@ -98,27 +99,26 @@ toggled-more sets sets′ a d q h (suc k) =
     ap₂ xor (h (suc k)) (toggled-more sets sets′ a d q h k) ∙ xor-swap (linesAt sets (suc k) d) (q && eqb (suc k) a) (toggledAt sets k d) (q && leb a k) ∙
     ap (xor (xor (linesAt sets (suc k) d) (toggledAt sets k d))) (and-xor q (eqb (suc k) a) (leb a k) ∙ ap (λ (x : Bool). q && x) (one-more a k))
 
--- the array after the line's digit at edge k is toggled, if b
-pub edge-toggled : (b : Bool) (sets : List ℕ) (k line : ℕ) → length sets ≡ 520 → k < 65 → line < 512 → (e d : ℕ)
-    → toggledAt (set sets (k * 8 + line / 64) (bitXor (getD sets (k * 8 + line / 64) 0) (boolByte b * 2 ^ bitAnd line 63 % 2 ^ 64))) e d
-    ≡ xor (toggledAt sets e d) (b && eqb d line && leb k e)
-edge-toggled b sets k line len hk hl e d =
-    toggled-more sets _ k d (b && eqb d line) (λ e. edge-changed bitXor xor digit-xor xor-false b sets k line len hk hl e d) e
-
 -- toggled at edge a and then at edge b
 pub toggled-twice : (x q : Bool) (a b k : ℕ) → a ≤ b → xor (xor x (q && leb a k)) (q && leb b k) ≡ xor x (q && (leb a k && ltb k b))
 toggled-twice x q a b k h =
     xor-assoc x (q && leb a k) (q && leb b k) ∙ ap (xor x) (and-xor q (leb a k) (leb b k) ∙ ap (λ (y : Bool). q && y) (between a b k h))
 
+-- sets that agree up to k have the same toggles there
+pub toggled-agree : (xs ys : List ℕ) (k d : ℕ) → ((e : ℕ) → e ≤ k → linesAt xs e d ≡ linesAt ys e d) → toggledAt xs k d ≡ toggledAt ys k d
+unfolding toggledAt
+toggled-agree xs ys zero d h = h 0 (omega arith)
+toggled-agree xs ys (suc k) d h = ap₂ xor (h (suc k) (omega arith)) (toggled-agree xs ys k d (λ e l. h e (omega arith)))
+
 -- ---- the pass over the words
 
 -- the words below i hold the lines of their edges, and the others are as they were
 pub record Settled (sets₀ : List ℕ) (i : ℕ) (sets : List ℕ) : Type 0 where
-  pub long : length sets ≡ 520
+  pub long : length sets ≡ 1048
   pub done : (k d : ℕ) → d < 512 → k * 8 + d / 64 < i → linesAt sets k d ≡ toggledAt sets₀ k d
   pub rest : (v : ℕ) → i ≤ v → getD sets v 0 ≡ getD sets₀ v 0
 
-pub settled-none : (sets : List ℕ) → length sets ≡ 520 → Settled sets 8 sets
+pub settled-none : (sets : List ℕ) → length sets ≡ 1048 → Settled sets 8 sets
 unfolding toggledAt
 settled-none sets len = record { long = len; done = first; rest = λ v h. refl }
   where
@@ -152,8 +152,13 @@ module _ (sets₀ : List ℕ) (i : ℕ) (sets : List ℕ) (least : 8 ≤ i) (mos
         rest = λ v h. getD-set-other sets i v next 0 (λ e. omega arith) ∙ s .rest v (omega arith);
       }
 
-pub settled-all : (sets₀ : List ℕ) (i : ℕ) (sets : List ℕ) → length sets₀ ≡ 520 → 520 ≤ i → Settled sets₀ i sets
+pub settled-all : (sets₀ : List ℕ) (i : ℕ) (sets : List ℕ) → length sets₀ ≡ 1048 → 520 ≤ i → Settled sets₀ i sets
     → (k d : ℕ) → k < 65 → linesAt sets k d ≡ toggledAt sets₀ k d
 settled-all sets₀ i sets len l s k d h =
     by-cases (decLt d 512) (λ m. s .done k d m (omega arith))
-    (λ m. no-line sets (s .long) k d h (omega arith) ∙ sym (toggled-above sets₀ len k d h (omega arith)))
+    (λ m. no-line sets (s .long) k d (omega arith) (omega arith) ∙ sym (toggled-above sets₀ len k d (omega arith) (omega arith)))
+
+-- the sets past the pass are as they were
+pub settled-rest : (sets₀ : List ℕ) (i : ℕ) (sets : List ℕ) → length sets₀ ≡ 1048 → i ≤ 520 → Settled sets₀ i sets
+    → (k d : ℕ) → 65 ≤ k → linesAt sets k d ≡ linesAt sets₀ k d
+settled-rest sets₀ i sets len l s k d h = same-set sets sets₀ k (s .long ∙ sym len) (λ w m. s .rest (k * 8 + w) (omega arith)) d

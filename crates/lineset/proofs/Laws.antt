@@ -2,28 +2,29 @@
 -- Assumes nothing.
 use mathlib.Core.Bool.{Bool, true, false, _&&_, _||_, and-false, or-false}
 use mathlib.Core.List.{List}
+use mathlib.Core.Logic.{by-cases}
 use mathlib.Core.Path.{_≡_, refl, sym, ap, _∙_}
 use Prim.Native.Nat.{ℕ, zero, suc, _+_, _*_, _/_, _%_, _^_, _≤_, _<_}
 use native.Mathlib.Decide.{decLt, ℕ-discrete}
 use native.Mathlib.Nat.{not-suc-le-zero, le-refl}
 use native.Mathlib.Omega.{arith}
 use borrow.Author.Count.{below-more}
-use borrow.Author.Tests.{eq-eqb, ne-eqb}
+use borrow.Author.Tests.{eq-eqb, ne-eqb, lt-ltb, le-ltb}
 use lib.Bits.{bitAnd, bitOr, and-mask}
 use lib.Count.{ones}
-use lib.Dec.{eqb}
-use lib.ListN.{length, getD, set, replicate, length-set, List·getD-eq-default}
+use lib.Dec.{eqb, ltb}
+use lib.ListN.{length, getD, set, replicate, length-set}
 use lib.Seq.{getD-set-same, getD-set-other}
 use mir.Val.{boolByte}
 use Rattle.model.specs.Sets.{Lines, countBelow, digit, words, inWords}
 use Rattle.model.proofs.Digits.{digit-of-zero, digit-or, digit-shl, count-add, count-agree, count-ones}
-use Rattle.model.proofs.Sets.{Eight, in-word, same-words, words-in, words-agree}
+use Rattle.model.proofs.Sets.{Eight, in-word, in-eight-above, same-words, words-in, words-agree}
 use Rattle.lineset.specs.Members.{members}
 use Rattle.lineset.specs.declared.LineSet.{LineSet}
 
 -- ---- no line
 
-zeros-at : (n k : ℕ) → getD (replicate n 0) k 0 ≡ zero
+pub zeros-at : (n k : ℕ) → getD (replicate n 0) k 0 ≡ zero
 zeros-at zero k = refl
 zeros-at (suc n) zero = refl
 zeros-at (suc n) (suc k) = zeros-at n k
@@ -59,57 +60,77 @@ in-changed op f dig stays b ws line d e8 h = go (ℕ-discrete (d / 64) (line / 6
         rw (getD-set-other ws (line / 64) (d / 64) v 0 n, ne-eqb d line (λ e. n (ap (λ (x : ℕ). x / 64) e)), and-false)
         (sym (stays _))
 
--- the words with a line's digit set in its word, as the code sets it
-abbrev pub added : List ℕ → ℕ → List ℕ
-added ws line = set ws (line / 64) (bitOr (getD ws (line / 64) 0) (1 * 2 ^ bitAnd line 63 % 2 ^ 64))
+-- ---- each of the eight words joined with a number of its own
 
-pub in-added : (ws : List ℕ) (line d : ℕ) → length ws ≡ 8 → line < 512
-    → inWords (added ws line) d ≡ (inWords ws d || eqb d line)
-in-added = in-changed bitOr _||_ digit-or or-false true
-
--- ---- two lists of words joined word by word
-
--- of the n words rs, those below w are joined from xs and ys, and the others are those of xs
-pub record Joined (op : ℕ → ℕ → ℕ) (n : ℕ) (xs ys : List ℕ) (w : ℕ) (rs : List ℕ) : Type 0 where
-  pub long : length rs ≡ n
-  pub done : (k : ℕ) → k < w → getD rs k 0 ≡ op (getD xs k 0) (getD ys k 0)
+-- of the words rs, those below w are joined from xs and y, and the others are those of xs
+pub record Joined (op : ℕ → ℕ → ℕ) (xs : List ℕ) (y : ℕ → ℕ) (w : ℕ) (rs : List ℕ) : Type 0 where
+  pub long : length rs ≡ 8
+  pub done : (k : ℕ) → k < w → getD rs k 0 ≡ op (getD xs k 0) (y k)
   pub rest : (k : ℕ) → w ≤ k → getD rs k 0 ≡ getD xs k 0
 
-module _ (op : ℕ → ℕ → ℕ) (n : ℕ) (xs ys : List ℕ) where
-  pub joined-none : length xs ≡ n → Joined op n xs ys 0 xs
+module _ (op : ℕ → ℕ → ℕ) (xs : List ℕ) (y : ℕ → ℕ) where
+  pub joined-none : length xs ≡ 8 → Joined op xs y 0 xs
   joined-none e = record { long = e; done = λ k h. absurd (not-suc-le-zero h); rest = λ k h. refl }
 
-  pub joined-more : (w : ℕ) (rs : List ℕ) → w < n → Joined op n xs ys w rs
-      → Joined op n xs ys (w + 1) (set rs w (op (getD rs w 0) (getD ys w 0)))
+  pub joined-more : (w : ℕ) (rs : List ℕ) → w < 8 → Joined op xs y w rs → Joined op xs y (w + 1) (set rs w (op (getD rs w 0) (y w)))
   joined-more w rs l j =
-      let v : ℕ = op (getD rs w 0) (getD ys w 0) in
+      let v : ℕ = op (getD rs w 0) (y w) in
       record {
         long = length-set rs w v ∙ j .long;
         done =
             below-more _ w (λ k h. getD-set-other rs w k v 0 (λ e. omega arith) ∙ j .done k h)
-            (getD-set-same rs w v 0 (omega (arith, j .long)) ∙ ap (λ (x : ℕ). op x (getD ys w 0)) (j .rest w (le-refl w)));
+            (getD-set-same rs w v 0 (omega (arith, j .long)) ∙ ap (λ (x : ℕ). op x (y w)) (j .rest w (le-refl w)));
         rest = λ k h. getD-set-other rs w k v 0 (λ e. omega arith) ∙ j .rest k (omega arith);
       }
 
-  -- past the words every word is 0
-  pub joined-all : op 0 0 ≡ 0 → length ys ≡ n → (w : ℕ) (rs : List ℕ) → n ≤ w → Joined op n xs ys w rs
-      → (k : ℕ) → getD rs k 0 ≡ op (getD xs k 0) (getD ys k 0)
-  joined-all z e w rs l j k = go (decLt k w)
-    where
-      go : Dec (k < w) → getD rs k 0 ≡ op (getD xs k 0) (getD ys k 0)
-      go (yes h) = j .done k h
-      go (no n) =
-          rw (← j .rest k (omega arith), List·getD-eq-default rs 0 {n = k} (omega (arith, j .long)))
-          (rw (List·getD-eq-default ys 0 {n = k} (omega arith)) (sym z))
-
   -- an operation that joins digits joins lines
-  pub in-joined : (f : Bool → Bool → Bool) → op 0 0 ≡ 0
-      → ((a b j : ℕ) → digit (op a b) j ≡ f (digit a j) (digit b j))
-      → length ys ≡ n → (w : ℕ) (rs : List ℕ) → n ≤ w → Joined op n xs ys w rs
-      → (d : ℕ) → inWords rs d ≡ f (inWords xs d) (inWords ys d)
+  in-joined : (f : Bool → Bool → Bool) → ((a b j : ℕ) → digit (op a b) j ≡ f (digit a j) (digit b j)) → (w : ℕ) (rs : List ℕ) → 8 ≤ w
+      → Joined op xs y w rs → (d : ℕ) → d < 512 → inWords rs d ≡ f (inWords xs d) (digit (y (d / 64)) (d % 64))
   unfolding inWords
-  in-joined f z dig e w rs l j d =
-      rw (joined-all z e w rs l j (d / 64)) (dig (getD xs (d / 64) 0) (getD ys (d / 64) 0) (d % 64))
+  in-joined f dig w rs l j d h = rw (j .done (d / 64) (omega arith)) (dig (getD xs (d / 64) 0) (y (d / 64)) (d % 64))
+
+-- two sets joined word by word
+pub in-both : (op : ℕ → ℕ → ℕ) (xs ys : List ℕ) (f : Bool → Bool → Bool) → f false false ≡ false
+    → ((a b j : ℕ) → digit (op a b) j ≡ f (digit a j) (digit b j)) → length xs ≡ 8 → length ys ≡ 8 → (w : ℕ) (rs : List ℕ) → 8 ≤ w
+    → Joined op xs (λ k. getD ys k 0) w rs → (d : ℕ) → inWords rs d ≡ f (inWords xs d) (inWords ys d)
+unfolding inWords
+in-both op xs ys f z dig ex ey w rs l j d =
+    by-cases (decLt d 512) (in-joined op xs (λ k. getD ys k 0) f dig w rs l j d)
+    (λ h. in-eight-above rs (j .long) d (omega arith) ∙ sym (rw (in-eight-above xs ex d (omega arith), in-eight-above ys ey d (omega arith)) z))
+
+-- what `with` joins with word k: the line's digit in the line's word, and 0 in the others
+abbrev pub mask : ℕ → ℕ → ℕ
+mask line k = boolByte (eqb k (line / 64)) * 2 ^ bitAnd line 63 % 2 ^ 64
+
+-- the line is added to the set; a line of 512 or more is in none of the words
+pub in-with : (ws : List ℕ) (line w : ℕ) (rs : List ℕ) → length ws ≡ 8 → 8 ≤ w → Joined bitOr ws (mask line) w rs
+    → (d : ℕ) → inWords rs d ≡ (inWords ws d || ltb line 512 && eqb d line)
+in-with ws line w rs e l j d = by-cases (decLt d 512) below above
+  where
+    one-digit : (eqb (d / 64) (line / 64) && eqb (d % 64) (line % 64)) ≡ eqb d line
+    one-digit =
+        by-cases (ℕ-discrete d line) (λ q. rw (q, eq-eqb (line / 64) (line / 64) refl, eq-eqb (line % 64) (line % 64) refl, eq-eqb line line refl) refl)
+        (λ n.
+        by-cases (ℕ-discrete (d / 64) (line / 64))
+        (λ q. rw (ne-eqb d line n, ne-eqb (d % 64) (line % 64) (λ r. n (omega arith))) (and-false (eqb (d / 64) (line / 64))))
+        (λ q. rw (ne-eqb d line n, ne-eqb (d / 64) (line / 64) q) refl))
+
+    in-range : d < 512 → eqb d line ≡ (ltb line 512 && eqb d line)
+    in-range h =
+        by-cases (ℕ-discrete d line) (λ q. rw (lt-ltb line 512 (omega arith)) refl) (λ n. rw (ne-eqb d line n) (sym (and-false (ltb line 512))))
+
+    below : d < 512 → inWords rs d ≡ (inWords ws d || ltb line 512 && eqb d line)
+    below h =
+        in-joined bitOr ws (mask line) _||_ digit-or w rs l j d h ∙
+        ap (λ (x : Bool). inWords ws d || x)
+        (rw (and-mask line 6) (digit-shl (eqb (d / 64) (line / 64)) 64 (line % 64) (d % 64) (omega arith)) ∙ one-digit ∙ in-range h)
+
+    above : (d < 512 → ⊥) → inWords rs d ≡ (inWords ws d || ltb line 512 && eqb d line)
+    above h =
+        in-eight-above rs (j .long) d (omega arith) ∙
+        sym
+        (rw (in-eight-above ws e d (omega arith))
+        (by-cases (ℕ-discrete d line) (λ q. rw (le-ltb line 512 (omega arith)) refl) (λ n. rw (ne-eqb d line n) (and-false (ltb line 512)))))
 
 -- ---- the lines of one word counted
 

@@ -21,9 +21,9 @@ impl LineSet {
     pub fn with(mut self, line: usize) -> Self
         ensures { λ r. ⌜ ((d : ℕ) → members r d ≡ (members self d || ltb line 512 && eqb d line)) ⌝ }
     {
-        if line < 512 {
-            let w = line >> 6;
-            self.words[w] = self.words[w] | (1 << (line & 63));
+        let word = line >> 6;
+        for w in 0..8 {
+            self.words[w] = self.words[w] | (((w == word) as u64) << (line & 63));
         }
         self
     }

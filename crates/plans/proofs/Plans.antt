@@ -17,7 +17,7 @@ use Rattle.model.proofs.Verdicts.{never-both}
 use Rattle.model.proofs.Regions.{fits-accepted, lines-most}
 use Rattle.placement.specs.Table.{Holds, Placed}
 use Rattle.placement.specs.declared.Placement.{Placement}
-use Rattle.prices.specs.Answers.{Prices}
+use Rattle.prices.specs.Prices.{Prices}
 use Rattle.prices.specs.declared.Price.{Price}
 
 -- the first points of an array, zeros after them, and their price: the plan that follows from the list

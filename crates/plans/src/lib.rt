@@ -2,11 +2,11 @@
 ghost use mathlib.Core.Path.{_≡_};
 ghost use lib.ListN.{drop, replicate};
 ghost use Prim.Native.Nat.{_-_, _<_, _≤_};
+ghost use Rattle.model.specs.Task.{blockCount};
 ghost use Rattle.model.specs.Answers.{onAccepted, pricing};
 ghost use Rattle.model.specs.Planning.{chosen, planFor, noPlan, Planned};
 ghost use Rattle.taskfile.specs.File.{verdict, taskOf};
-ghost use Rattle.regions.specs.Ready.{Ready};
-use lineset::LineSet;
+ghost use Rattle.reuse.specs.Ready.{Ready};
 use model::Plan;
 use model::Refusal;
 use model::Verdict;
@@ -32,26 +32,20 @@ pub fn price_points(file: &[u8], first: Plan) -> FilePlan
         return no_plan(verdict);
     };
     FilePlan {
-        verdict: Verdict::Accepted,
-        plan: plan_of(
-            taskfile::block_count(file),
-            taskfile::id(file),
-            first,
-            price,
-        ),
+        verdict,
+        plan: plan_of(file, count, points, price),
     }
 }
 
-// The plan of another plan's points: N and id are the file's.
-fn plan_of(blocks: usize, id: u32, first: Plan, price: Price) -> Plan
-    requires { ⌜ (blocks ≤ 64) × (price .lines < 65536) ⌝ }
-    ensures { λ r. ⌜ r ≡ record { blocks = blocks; id = id; count = first .count; lines = price .lines; cost = price .cost; points = first .points } ⌝ }
+// The plan of the first points, with their price; N and id are the file's.
+fn plan_of(file: &[u8], count: usize, points: [u16; 64], price: Price) -> Plan
+    requires { ⌜ (verdict (now file) ≡ Verdict.Accepted) × (count ≤ 63) × (price .lines < 65536) ⌝ }
+    ensures { λ r. ⌜ r ≡ record { blocks = blockCount (taskOf (now (file .entry))); id = taskOf (now (file .entry)) .id; count = count; lines = price .lines; cost = price .cost; points = points } ⌝ }
 {
-    let points = first.points;
     Plan {
-        blocks: blocks as u16,
-        id,
-        count: first.count,
+        blocks: taskfile::block_count(file) as u16,
+        id: taskfile::id(file),
+        count: count as u16,
         lines: price.lines as u16,
         cost: price.cost,
         points,
@@ -63,43 +57,28 @@ pub fn least_plan(file: &[u8]) -> FilePlan
     requires { ⌜ verdict (now file) ≡ Verdict.Accepted ⌝ }
     ensures { λ r. ⌜ Planned (taskOf (now (file .entry))) (r .verdict) (r .plan) ⌝ }
 {
-    let mut useful = [0u64; 520];
-    let mut accessed = [0u64; 520];
-    reuse::edge_lines(file, &mut useful, &mut accessed);
-    let evicted = reuse::evicted_lines(file);
-    plan_regions(file, &useful, &accessed, evicted)
+    let mut sets = [0u64; 1048];
+    reuse::find_lines(file, &mut sets);
+    plan_regions(file, &sets)
 }
 
-// The same, from the lines of all edges.
-fn plan_regions(
-    file: &[u8],
-    useful: &[u64; 520],
-    accessed: &[u64; 520],
-    evicted: LineSet,
-) -> FilePlan
-    requires { ⌜ Ready (now file) (now useful) (now accessed) evicted ⌝ }
+// The same, from the sets of all edges.
+fn plan_regions(file: &[u8], sets: &[u64; 1048]) -> FilePlan
+    requires { ⌜ Ready (now file) (now sets) ⌝ }
     ensures { λ r. ⌜ Planned (taskOf (now (file .entry))) (r .verdict) (r .plan) ⌝ }
 {
     let mut table = [placement::NONE; 4096];
-    regions::fill_table(file, useful, accessed, evicted, &mut table);
-    let n = taskfile::block_count(file);
-    let placed = placement::place(&table, n);
+    regions::fill_table(file, sets, &mut table);
+    let placed = placement::place(&table, taskfile::block_count(file));
     let count = placed.count;
     let points = placed.points;
     if !placed.found {
         return no_plan(Verdict::Refused(Refusal::NoPlacement));
     }
-    let price = prices::price_list(file, useful, accessed, evicted, &points[..count]);
+    let price = prices::price_list(file, sets, &points[..count]);
     FilePlan {
         verdict: Verdict::Accepted,
-        plan: Plan {
-            blocks: n as u16,
-            id: taskfile::id(file),
-            count: count as u16,
-            lines: price.lines as u16,
-            cost: price.cost,
-            points,
-        },
+        plan: plan_of(file, count, points, price),
     }
 }
 

@@ -4,9 +4,8 @@ ghost use lib.ListN.{getD};
 ghost use Rattle.model.specs.Task.{blockCount};
 ghost use Rattle.model.specs.Lists.{wrongPoint};
 ghost use Rattle.taskfile.specs.File.{verdict, taskOf};
-ghost use Rattle.regions.specs.Ready.{Ready};
-ghost use Rattle.prices.specs.Answers.{Prices};
-use lineset::LineSet;
+ghost use Rattle.reuse.specs.Ready.{Ready};
+ghost use Rattle.prices.specs.Prices.{Prices};
 use model::Place;
 use model::Refusal;
 use model::Verdict;
@@ -40,58 +39,43 @@ pub fn price_of(file: &[u8], points: &[u16]) -> Price
     requires { ⌜ verdict (now file) ≡ Verdict.Accepted ⌝ }
     ensures { λ r. ⌜ Prices (taskOf (now (file .entry))) (now (points .entry)) r ⌝ }
 {
-    let mut useful = [0u64; 520];
-    let mut accessed = [0u64; 520];
-    reuse::edge_lines(file, &mut useful, &mut accessed);
-    let evicted = reuse::evicted_lines(file);
-    price_list(file, &useful, &accessed, evicted, points)
+    let mut sets = [0u64; 1048];
+    reuse::find_lines(file, &mut sets);
+    price_list(file, &sets, points)
 }
 
-// The same, from the lines of all edges.
-pub fn price_list(
-    file: &[u8],
-    useful: &[u64; 520],
-    accessed: &[u64; 520],
-    evicted: LineSet,
-    points: &[u16],
-) -> Price
-    requires { ⌜ Ready (now file) (now useful) (now accessed) evicted ⌝ }
+// The same, from the sets of all edges.
+pub fn price_list(file: &[u8], sets: &[u64; 1048], points: &[u16]) -> Price
+    requires { ⌜ Ready (now file) (now sets) ⌝ }
     ensures { λ r. ⌜ Prices (taskOf (now (file .entry))) (now (points .entry)) r ⌝ }
 {
     match wrong_point(points, taskfile::block_count(file)) {
         Place::At(i) => refused(Refusal::Argument(i)),
-        Place::Nowhere => price_regions(file, useful, accessed, evicted, points),
+        Place::Nowhere => price_regions(file, sets, points),
     }
 }
 
 // The price of a well-formed list.
-fn price_regions(
-    file: &[u8],
-    useful: &[u64; 520],
-    accessed: &[u64; 520],
-    evicted: LineSet,
-    points: &[u16],
-) -> Price
-    requires { ⌜ Ready (now file) (now useful) (now accessed) evicted × (wrongPoint (blockCount (taskOf (now file))) (now points) ≡ Place.Nowhere) ⌝ }
+fn price_regions(file: &[u8], sets: &[u64; 1048], points: &[u16]) -> Price
+    requires { ⌜ Ready (now file) (now sets) × (wrongPoint (blockCount (taskOf (now file))) (now points) ≡ Place.Nowhere) ⌝ }
     ensures { λ r. ⌜ Prices (taskOf (now (file .entry))) (now (points .entry)) r ⌝ }
 {
     let n = taskfile::block_count(file);
-    let limit = taskfile::limit(file) as u64;
     let mut lines = 0u64;
+    let mut cost = 0u64;
     let mut a = 0;
     let mut i = 0;
     while i <= points.len() {
         let b = edge_after(points, i, n);
-        let region = regions::region_between(file, useful, accessed, evicted, a, b);
-        if limit < region.length {
+        let region = regions::region_between(file, sets, a, b);
+        if !region.fits {
             return refused(Refusal::AboveLimit(i));
         }
-        lines += region.loaded.size() as u64;
+        lines += region.lines as u64;
+        cost += region.cost;
         a = b;
         i += 1;
     }
-    let reload = taskfile::reload(file) as u64;
-    let cost = reload * lines;
     Price {
         verdict: Verdict::Accepted,
         lines,

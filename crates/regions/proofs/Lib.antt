@@ -1,4 +1,3 @@
 pub mod Widths
 pub mod Runs
-pub mod Measured
 pub mod Rows

@@ -15,10 +15,10 @@ use Rattle.model.specs.Task.{Task}
 use Rattle.model.specs.Regions.{regionFits, regionCost}
 use Rattle.model.proofs.Regions.{longer-above}
 use Rattle.placement.specs.Table.{none, entry, slot, Holds}
-use Rattle.regions.specs.Answers.{NoneFrom, Row}
+use Rattle.regions.specs.Measures.{NoneFrom, FilledRow}
 
 module _ {t : Task} {a : ℕ} {before : List ℕ} where
-  pub row-none : length before ≡ 4096 → Row t a a before before
+  pub row-none : length before ≡ 4096 → FilledRow t a a before before
   row-none h =
       record {
         long = h;
@@ -28,8 +28,8 @@ module _ {t : Task} {a : ℕ} {before : List ℕ} where
       }
 
   -- the region to edge k + 1 fits, and its cost is entered
-  pub row-more : (k v : ℕ) (table : List ℕ) → a ≤ k → k < 64 → Row t a k before table
-      → regionFits t a (k + 1) ≡ true → v ≡ regionCost t a (k + 1) → v < 2 ^ 56 → Row t a (k + 1) before (set table (a * 64 + k) v)
+  pub row-more : (k v : ℕ) (table : List ℕ) → a ≤ k → k < 64 → FilledRow t a k before table
+      → regionFits t a (k + 1) ≡ true → v ≡ regionCost t a (k + 1) → v < 2 ^ 56 → FilledRow t a (k + 1) before (set table (a * 64 + k) v)
   unfolding entry
   row-more k v table h l row fit e small =
       let at : slot a (k + 1) ≡ a * 64 + k = omega arith in
@@ -49,8 +49,8 @@ module _ {t : Task} {a : ℕ} {before : List ℕ} where
       }
 
   -- the region to edge k + 1 does not fit, so no longer one does
-  pub row-ends : (k n : ℕ) (table : List ℕ) → k ≤ n → n ≤ 64 → NoneFrom a before → Row t a k before table
-      → regionFits t a (k + 1) ≡ false → Row t a n before table
+  pub row-ends : (k n : ℕ) (table : List ℕ) → k ≤ n → n ≤ 64 → NoneFrom a before → FilledRow t a k before table
+      → regionFits t a (k + 1) ≡ false → FilledRow t a n before table
   unfolding entry
   row-ends k n table h l empty row above =
       record {
@@ -87,7 +87,7 @@ module _ {t : Task} {n : ℕ} where
         rest = λ e _ le b lo hi. rw q (getD-replicate 4096 (slot e b) none 0 (omega arith));
       }
 
-  pub filled-more : {a : ℕ} {before after : List ℕ} → n ≤ 64 → Filled t n a before → Row t a n before after → Filled t n (a + 1) after
+  pub filled-more : {a : ℕ} {before after : List ℕ} → n ≤ 64 → Filled t n a before → FilledRow t a n before after → Filled t n (a + 1) after
   filled-more {a} {before} {after} h f row =
       record {
         long = row .long;

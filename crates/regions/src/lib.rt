@@ -1,159 +1,139 @@
-// The regions of an accepted file: the loaded lines and the length of one, and the table of all of them for a placement.
-ghost use mathlib.Core.Bool.{false};
+// The regions of an accepted file: the loaded lines, the length, the cost and the fit of one, and the table of all of them for a placement.
 ghost use mathlib.Core.Path.{_≡_};
-ghost use Prim.Native.Nat.{ℕ, _+_, _*_, _^_, _<_, _≤_};
+ghost use Prim.Native.Nat.{_+_, _≤_, _<_};
 ghost use lib.ListN.{length, replicate};
-ghost use Rattle.model.specs.Sets.{size};
 ghost use Rattle.model.specs.Task.{blockCount};
 ghost use Rattle.model.specs.Regions.{regionFits, regionCost};
-ghost use Rattle.lineset.specs.Members.{members};
 ghost use Rattle.placement.specs.Table.{none, Holds};
 ghost use Rattle.taskfile.specs.File.{verdict, taskOf};
-ghost use Rattle.regions.specs.Ready.{Useful, Accessed, Evicted, Ready};
-ghost use Rattle.regions.specs.Answers.{Spans, Measures, NoneFrom, Row};
+ghost use Rattle.reuse.specs.Ready.{Ready};
+ghost use Rattle.regions.specs.Measures.{Spans, Measures, NoneFrom, FilledRow};
 use lineset::LineSet;
 use model::Verdict;
 
-// A region's loaded lines and its length.
+// A region's loaded lines and their number, its length, its cost and whether it fits.
 pub struct Region {
     pub loaded: LineSet,
+    pub lines: u32,
     pub length: u64,
+    pub cost: u64,
+    pub fits: bool,
 }
 
-// The basic blocks after edge `from` up to edge `to`: their accessed useful lines, and the sum of their times.
+// The basic blocks after edge `from` up to edge `to`: the lines that a preemption at `from` loses, the accessed useful lines of the blocks, and
+// the sum of their times.
 struct Run {
     from: usize,
     to: usize,
+    lost: LineSet,
     lines: LineSet,
     time: u64,
 }
 
-// The loaded lines and the length of the region from edge a to edge b.
+// The region from edge a to edge b.
 pub fn measure(file: &[u8], a: usize, b: usize) -> Region
     requires { ⌜ (verdict (now file) ≡ Verdict.Accepted) × (a < b) × (b ≤ blockCount (taskOf (now file))) ⌝ }
     ensures { λ r. ⌜ Measures (taskOf (now (file .entry))) a b r ⌝ }
 {
-    let mut useful = [0u64; 520];
-    let mut accessed = [0u64; 520];
-    reuse::edge_lines(file, &mut useful, &mut accessed);
-    let evicted = reuse::evicted_lines(file);
-    region_between(file, &useful, &accessed, evicted, a, b)
+    let mut sets = [0u64; 1048];
+    reuse::find_lines(file, &mut sets);
+    region_between(file, &sets, a, b)
 }
 
-// The same, from the lines of all edges.
-pub fn region_between(
-    file: &[u8],
-    useful: &[u64; 520],
-    accessed: &[u64; 520],
-    evicted: LineSet,
-    a: usize,
-    b: usize,
-) -> Region
-    requires { ⌜ Ready (now file) (now useful) (now accessed) evicted × (a < b) × (b ≤ blockCount (taskOf (now file))) ⌝ }
+// The same, from the sets of all edges.
+pub fn region_between(file: &[u8], sets: &[u64; 1048], a: usize, b: usize) -> Region
+    requires { ⌜ Ready (now file) (now sets) × (a < b) × (b ≤ blockCount (taskOf (now file))) ⌝ }
     ensures { λ r. ⌜ Measures (taskOf (now (file .entry))) a b r ⌝ }
 {
-    let mut run = start(a);
+    let mut run = start(file, sets, a);
     while run.to < b {
-        run = longer(file, accessed, run);
+        run = longer(file, sets, run);
     }
-    region_of(file, useful, evicted, run)
+    region_of(file, run)
 }
 
 // The entries of all regions, for a placement; the table is lent with NONE everywhere.
-pub fn fill_table(
-    file: &[u8],
-    useful: &[u64; 520],
-    accessed: &[u64; 520],
-    evicted: LineSet,
-    table: &mut [u64; 4096],
-)
-    requires { ⌜ Ready (now file) (now useful) (now accessed) evicted × (now table ≡ replicate 4096 none) ⌝ }
+pub fn fill_table(file: &[u8], sets: &[u64; 1048], table: &mut [u64; 4096])
+    requires { ⌜ Ready (now file) (now sets) × (now table ≡ replicate 4096 none) ⌝ }
     ensures { λ _. ⌜ length (now (table .exit)) ≡ 4096 ⌝ }
     ensures { λ _. ⌜ Holds (now (table .exit)) (blockCount (taskOf (now (file .entry)))) (regionFits (taskOf (now (file .entry)))) (regionCost (taskOf (now (file .entry)))) ⌝ }
 {
     let n = taskfile::block_count(file);
     let mut a = 0;
     while a < n {
-        fill_row(file, useful, accessed, evicted, a, table);
+        fill_row(file, sets, a, table);
         a += 1;
     }
 }
 
 // The entries of the regions from edge a; the table is else as it was. The first region above the limit ends the row: all longer ones
 // are above it too, and NONE stands for them.
-fn fill_row(
-    file: &[u8],
-    useful: &[u64; 520],
-    accessed: &[u64; 520],
-    evicted: LineSet,
-    a: usize,
-    table: &mut [u64; 4096],
-)
-    requires { ⌜ Ready (now file) (now useful) (now accessed) evicted × (a < blockCount (taskOf (now file))) × (length (now table) ≡ 4096) × NoneFrom a (now table) ⌝ }
-    ensures { λ _. ⌜ Row (taskOf (now (file .entry))) a (blockCount (taskOf (now (file .entry)))) (now (table .entry)) (now (table .exit)) ⌝ }
+fn fill_row(file: &[u8], sets: &[u64; 1048], a: usize, table: &mut [u64; 4096])
+    requires { ⌜ Ready (now file) (now sets) × (a < blockCount (taskOf (now file))) × (length (now table) ≡ 4096) × NoneFrom a (now table) ⌝ }
+    ensures { λ _. ⌜ FilledRow (taskOf (now (file .entry))) a (blockCount (taskOf (now (file .entry)))) (now (table .entry)) (now (table .exit)) ⌝ }
 {
     let n = taskfile::block_count(file);
-    let limit = taskfile::limit(file) as u64;
-    let mut run = start(a);
+    let mut run = start(file, sets, a);
     while run.to < n {
         let at = a * 64 + run.to;
-        run = longer(file, accessed, run);
-        let region = region_of(file, useful, evicted, run);
-        if region.length > limit {
+        run = longer(file, sets, run);
+        let region = region_of(file, run);
+        if !region.fits {
             return;
         }
-        table[at] = cost(file, region.loaded);
+        table[at] = region.cost;
     }
 }
 
-// What the reloads of a set of lines cost.
-fn cost(file: &[u8], loaded: LineSet) -> u64
-    requires { ⌜ verdict (now file) ≡ Verdict.Accepted ⌝ }
-    ensures { λ r. ⌜ (r ≡ taskOf (now (file .entry)) .reload * size (members loaded)) × (r < 2 ^ 56) ⌝ }
-{
-    taskfile::reload(file) as u64 * loaded.size() as u64
-}
-
 // No basic blocks, at edge a.
-fn start(a: usize) -> Run
-    ensures { λ r. ⌜ (r .from ≡ a) × (r .to ≡ a) × (r .time ≡ 0) × ((c : ℕ) → members (r .lines) c ≡ false) ⌝ }
+fn start(file: &[u8], sets: &[u64; 1048], a: usize) -> Run
+    requires { ⌜ Ready (now file) (now sets) × (a ≤ blockCount (taskOf (now file))) ⌝ }
+    ensures { λ r. ⌜ Spans (taskOf (now (file .entry))) r × (r .from ≡ a) × (r .to ≡ a) ⌝ }
 {
+    let lost = edgesets::lines_at(sets, a).common(edgesets::lines_at(sets, reuse::EVICTED));
     Run {
         from: a,
         to: a,
+        lost,
         lines: LineSet::empty(),
         time: 0,
     }
 }
 
 // One basic block more.
-fn longer(file: &[u8], accessed: &[u64; 520], run: Run) -> Run
-    requires { ⌜ (verdict (now file) ≡ Verdict.Accepted) × Accessed (now file) (now accessed) ⌝ }
-    requires { ⌜ Spans (taskOf (now file)) run × (run .to < blockCount (taskOf (now file))) ⌝ }
+fn longer(file: &[u8], sets: &[u64; 1048], run: Run) -> Run
+    requires { ⌜ Ready (now file) (now sets) × Spans (taskOf (now file)) run × (run .to < blockCount (taskOf (now file))) ⌝ }
     ensures { λ r. ⌜ Spans (taskOf (now (file .entry))) r × (r .from ≡ run .from) × (r .to ≡ run .to + 1) ⌝ }
 {
     let to = run.to;
     let next = to + 1;
-    let lines = run.lines.union(edgesets::lines_at(accessed, next));
+    let lost = run.lost;
+    let lines = run.lines
+        .union(edgesets::lines_at(sets, reuse::ACCESSED_USEFUL + next));
     let time = run.time + taskfile::time(file, to) as u64;
     Run {
         from: run.from,
         to: next,
+        lost,
         lines,
         time,
     }
 }
 
 // The region of a run of basic blocks.
-fn region_of(file: &[u8], useful: &[u64; 520], evicted: LineSet, run: Run) -> Region
-    requires { ⌜ (verdict (now file) ≡ Verdict.Accepted) × Useful (now file) (now useful) × Evicted (now file) evicted ⌝ }
-    requires { ⌜ Spans (taskOf (now file)) run ⌝ }
+fn region_of(file: &[u8], run: Run) -> Region
+    requires { ⌜ (verdict (now file) ≡ Verdict.Accepted) × Spans (taskOf (now file)) run ⌝ }
     ensures { λ r. ⌜ Measures (taskOf (now (file .entry))) (run .from) (run .to) r ⌝ }
 {
-    let loaded = edgesets::lines_at(useful, run.from)
-        .common(evicted)
-        .common(run.lines);
-    let reloads = cost(file, loaded);
-    let length = run.time + reloads;
-    Region { loaded, length }
+    let loaded = run.lost.common(run.lines);
+    let lines = loaded.size();
+    let cost = taskfile::reload(file) as u64 * lines as u64;
+    let length = run.time + cost;
+    Region {
+        loaded,
+        lines,
+        length,
+        cost,
+        fits: length <= taskfile::limit(file) as u64,
+    }
 }

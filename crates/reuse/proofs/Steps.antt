@@ -9,7 +9,7 @@ use mathlib.Core.List.{List}
 use native.Mathlib.Omega.{arith}
 use native.Mathlib.Decide.{ℕ-discrete, decLt}
 use lib.Dec.{eqb, leb, ltb}
-use lib.ListN.{length, getD, set, take, length-set}
+use lib.ListN.{length, getD, set, take, replicate, length-set}
 use lib.Seq.{getD-set-same, getD-set-other, drop-nil, take-length, take-all}
 use borrow.Author.Tests.{eq-eqb, ne-eqb, le-ltb}
 use Rattle.model.specs.Task.{Task, blockCount}
@@ -18,19 +18,21 @@ use Rattle.model.specs.declared.Line.{Line}
 use Rattle.model.specs.declared.Line.the-variants.{Empty, Held}
 use Rattle.model.proofs.LineStates.{never-empty, useful-beyond, any-take}
 use Rattle.model.proofs.ReadOrder.{allReads, edge, take-edge, drop-edge, edge-rises, edge-end, edge-suc, read-at}
-use Rattle.edgesets.specs.Edges.{linesAt, EdgeSets, toggledAt, EdgeToggles}
+use Rattle.edgesets.specs.Edges.{linesAt, toggledAt}
+use Rattle.edgesets.proofs.Edges.{no-lines}
 use Rattle.edgesets.proofs.Toggles.{xor-false, toggled-none, toggled-above}
 use Rattle.reuse.proofs.Walk.{Kept, retold, since-le, other, this}
 
+-- what the walk keeps after p reads: what each line holds, the block that read it last, and the toggles of the edges
 pub record Walked (t : Task) (p : ℕ) (held : List Line) (since : List ℕ) (sets : List ℕ) : Type 0 where
   pub long-held : length held ≡ 512
   pub long-since : length since ≡ 512
-  pub long : length sets ≡ 520
+  pub long : length sets ≡ 1048
   pub kept : (c : ℕ) → c < 512 → Kept (allReads t) (edge t) (onLine t c) p (getD held c Empty) (getD since c 0) (λ k. toggledAt sets k c)
 
 -- read j of block b, of number m on this line; it is toggled at the edges from since[line] up to b if it held m already
 pub walked-more : (t : Task) (i j b m line q : ℕ) (held : List Line) (since sets sets′ : List ℕ) → i < blockCount t → j < length (blockAt t i .reads)
-    → b ≡ suc i → getD (blockAt t i .reads) j 0 ≡ m → line < 512 → line ≡ lineOf t m → q ≡ suc (edge t i + j) → length sets′ ≡ 520
+    → b ≡ suc i → getD (blockAt t i .reads) j 0 ≡ m → line < 512 → line ≡ lineOf t m → q ≡ suc (edge t i + j) → length sets′ ≡ 1048
     → ((k d : ℕ) → toggledAt sets′ k d
     ≡ xor (toggledAt sets k d) (sameBlock (getD held line Empty) (Held m) && eqb d line && (leb (getD since line 0) k && ltb k b)))
     → Walked t (edge t i + j) held since sets → Walked t q (set held line (Held m)) (set since line b) sets′
@@ -74,14 +76,14 @@ walked-more t i j b m line q held since sets sets′ hi hj eb em hl at eq long a
 
 -- before the first read no line holds a number, and no line is known to be useful
 pub walked-none : (t : Task) (held : List Line) (since sets : List ℕ) → length held ≡ 512 → length since ≡ 512
-    → ((c : ℕ) → c < 512 → getD held c Empty ≡ Empty) → ((c : ℕ) → c < 512 → getD since c 0 ≡ 0) → EdgeSets 64 (λ k c. false) sets
+    → ((c : ℕ) → c < 512 → getD held c Empty ≡ Empty) → ((c : ℕ) → c < 512 → getD since c 0 ≡ 0) → sets ≡ replicate 1048 0
     → Walked t 0 held since sets
 unfolding lastRead anyRead firstRead
-walked-none t held since sets h s e z none =
+walked-none t held since sets h s e z zeros =
     record {
       long-held = h;
       long-since = s;
-      long = none .long;
+      long = rw zeros refl;
       kept =
           λ c l.
           record {
@@ -90,22 +92,28 @@ walked-none t held since sets h s e z none =
             useful =
                 λ k u.
                 rw drop-nil
-                (toggled-none sets k c (λ e l. none .lines e c (omega arith)) ∙ sym (never-empty (lastRead (onLine t c) Empty (take (edge t k) (allReads t)))));
+                (rw zeros (toggled-none (replicate 1048 0) k c (λ e l. no-lines 1048 e c)) ∙ sym (never-empty (lastRead (onLine t c) Empty (take (edge t k) (allReads t)))));
           };
     }
 
 -- after the last read the toggles are those of the useful lines
 pub walked-all : (t : Task) (p : ℕ) (held : List Line) (since sets : List ℕ) → p ≡ length (allReads t) → blockCount t ≤ 64
-    → 1 ≤ t .lineCount → t .lineCount ≤ 512 → Walked t p held since sets → EdgeToggles (blockCount t) (useful t) sets
+    → 1 ≤ t .lineCount → t .lineCount ≤ 512 → Walked t p held since sets → (k c : ℕ) → k ≤ blockCount t → toggledAt sets k c ≡ useful t k c
 unfolding useful stateAfter nextRead
-walked-all t p held since sets e n least most w =
+walked-all t p held since sets e n least most w k c h =
+    by-cases (decLt c 512)
+    (λ l. w .kept c l .useful k (omega arith) ∙ rw (e, take-length, take-edge t k, drop-edge t k) refl)
+    (λ l. toggled-above sets (w .long) k c (omega arith) (omega arith) ∙ sym (useful-beyond t least c (omega arith) k))
+
+-- the walk keeps its state where the toggles stay
+pub walked-same : (t : Task) (p : ℕ) (held : List Line) (since sets sets′ : List ℕ) → length sets′ ≡ 1048
+    → ((k d : ℕ) → k < 65 → toggledAt sets′ k d ≡ toggledAt sets k d) → Walked t p held since sets → Walked t p held since sets′
+walked-same t p held since sets sets′ long same w =
     record {
-      long = w .long;
-      lines =
-          λ k c h.
-          by-cases (decLt c 512)
-          (λ l. w .kept c l .useful k (omega arith) ∙ rw (e, take-length, take-edge t k, drop-edge t k) refl)
-          (λ l. toggled-above sets (w .long) k c (omega arith) (omega arith) ∙ sym (useful-beyond t least c (omega arith) k));
+      long-held = w .long-held;
+      long-since = w .long-since;
+      long = long;
+      kept = λ c h. retold (allReads t) (edge t) (onLine t c) refl refl (λ k u. same k c u) (w .kept c h);
     }
 
 -- no line was read last by a block that comes later
@@ -114,41 +122,50 @@ pub walked-since : (t : Task) (i j line : ℕ) (held : List Line) (since sets : 
 walked-since t i j line held since sets hi hj hl w =
     since-le (allReads t) (edge t) (onLine t line) (suc i) (omega (arith, edge-suc t i hi)) (w .kept line hl)
 
--- the lines that the blocks read: those of the blocks up to i, and those of the first j reads of the block after it
+-- the lines that the blocks read, from set 65 on: those of the blocks up to i, and those of the first j reads of the block after it
 pub record Gathered (t : Task) (i j : ℕ) (sets : List ℕ) : Type 0 where
-  pub long : length sets ≡ 520
-  pub passed : (e c : ℕ) → e ≤ i → linesAt sets e c ≡ accessed t e c
-  pub here : (c : ℕ) → suc i < 65 → linesAt sets (suc i) c ≡ anyRead (onLine t c) (take j (blockAt t i .reads))
-  pub ahead : (e c : ℕ) → suc i < e → e < 65 → linesAt sets e c ≡ false
+  pub passed : (e c : ℕ) → e ≤ i → linesAt sets (65 + e) c ≡ accessed t e c
+  pub here : (c : ℕ) → suc i < 65 → linesAt sets (65 + suc i) c ≡ anyRead (onLine t c) (take j (blockAt t i .reads))
+  pub ahead : (e c : ℕ) → suc i < e → e < 65 → linesAt sets (65 + e) c ≡ false
 
-pub gathered-none : (t : Task) (sets : List ℕ) → EdgeSets 64 (λ k c. false) sets → Gathered t 0 0 sets
+pub gathered-none : (t : Task) (sets : List ℕ) → sets ≡ replicate 1048 0 → Gathered t 0 0 sets
 unfolding anyRead accessed
-gathered-none t sets none =
+gathered-none t sets zeros =
     record {
-      long = none .long;
       passed = first;
-      here = λ c h. none .lines 1 c (omega arith);
-      ahead = λ e c h l. none .lines e c (omega arith);
+      here = λ c h. none 66 c;
+      ahead = λ e c h l. none (65 + e) c;
     }
   where
-    first : (e c : ℕ) → e ≤ 0 → linesAt sets e c ≡ accessed t e c
-    first zero c h = none .lines 0 c (omega arith)
+    none : (e c : ℕ) → linesAt sets e c ≡ false
+    none e c = rw zeros (no-lines 1048 e c)
+
+    first : (e c : ℕ) → e ≤ 0 → linesAt sets (65 + e) c ≡ accessed t e c
+    first zero c h = none 65 c
     first (suc e) c h = absurd (omega arith)
 
+-- the lines of the blocks stay where their sets do
+pub gathered-same : (t : Task) (i j : ℕ) (sets sets′ : List ℕ) → ((k d : ℕ) → 65 ≤ k → linesAt sets′ k d ≡ linesAt sets k d) → Gathered t i j sets → Gathered t i j sets′
+gathered-same t i j sets sets′ same g =
+    record {
+      passed = λ e c h. same (65 + e) c (omega arith) ∙ g .passed e c h;
+      here = λ c h. same (65 + suc i) c (omega arith) ∙ g .here c h;
+      ahead = λ e c h l. same (65 + e) c (omega arith) ∙ g .ahead e c h l;
+    }
+
 -- read j of block b, of number m on this line
-pub gathered-more : (t : Task) (i j b m line : ℕ) (sets sets′ : List ℕ) → j < length (blockAt t i .reads) → b ≡ suc i
-    → getD (blockAt t i .reads) j 0 ≡ m → line ≡ lineOf t m → length sets′ ≡ 520
+pub gathered-more : (t : Task) (i j b m line : ℕ) (sets sets′ : List ℕ) → j < length (blockAt t i .reads) → b ≡ 65 + suc i
+    → getD (blockAt t i .reads) j 0 ≡ m → line ≡ lineOf t m
     → ((e d : ℕ) → linesAt sets′ e d ≡ (linesAt sets e d || eqb d line && eqb e b)) → Gathered t i j sets → Gathered t i (j + 1) sets′
 unfolding onLine
-gathered-more t i j b m line sets sets′ hj eb em at long added g =
+gathered-more t i j b m line sets sets′ hj eb em at added g =
     record {
-      long = long;
-      passed = λ e c h. same e c (omega arith) ∙ g .passed e c h;
+      passed = λ e c h. same (65 + e) c (omega arith) ∙ g .passed e c h;
       here =
           λ c h.
-          added (suc i) c ∙ rw (eq-eqb (suc i) b (sym eb), and-true, at, ← em)
+          added (65 + suc i) c ∙ rw (eq-eqb (65 + suc i) b (sym eb), and-true, at, ← em)
           (ap (λ (x : Bool). x || onLine t c (getD (blockAt t i .reads) j 0)) (g .here c h) ∙ sym (any-take (onLine t c) (blockAt t i .reads) j hj));
-      ahead = λ e c h l. same e c (omega arith) ∙ g .ahead e c h l;
+      ahead = λ e c h l. same (65 + e) c (omega arith) ∙ g .ahead e c h l;
     }
   where
     same : (e c : ℕ) → (e ≡ b → ⊥) → linesAt sets′ e c ≡ linesAt sets e c
@@ -159,7 +176,6 @@ pub gathered-block : (t : Task) (i j : ℕ) (sets : List ℕ) → i < 64 → len
 unfolding anyRead accessed
 gathered-block t i j sets hi hj g =
     record {
-      long = g .long;
       passed =
           λ e c h.
           by-cases (ℕ-discrete e (suc i))

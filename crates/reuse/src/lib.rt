@@ -3,51 +3,34 @@ ghost use mathlib.Core.Bool.{false, _&&_, _||_, xor};
 ghost use mathlib.Core.Path.{_≡_};
 ghost use Prim.Native.Nat.{ℕ, _+_, _<_, _≤_};
 ghost use lib.Dec.{eqb, leb, ltb};
-ghost use lib.ListN.{length};
+ghost use lib.ListN.{length, getD, replicate};
 ghost use Rattle.model.specs.Task.{blockCount};
-ghost use Rattle.model.specs.Sets.{inWords};
-ghost use Rattle.model.specs.Lines.{onLine, anyRead, accessedUseful, evicted, sameBlock};
+ghost use Rattle.model.specs.Lines.{onLine, anyRead, evicted, sameBlock};
 ghost use Rattle.model.specs.Lines as Lines;
 ghost use Rattle.lineset.specs.Members.{members};
 ghost use Rattle.taskfile.specs.File.{verdict, header, taskOf, entryReads};
-ghost use Rattle.edgesets.specs.Edges.{EdgeSets, toggledAt, EdgeToggles};
+ghost use Rattle.cacheline.specs.Caches.{CacheOf};
+ghost use Rattle.edgesets.specs.Edges.{linesAt, toggledAt};
+ghost use Rattle.reuse.specs.Ready.{Ready, Collected};
+use cacheline::Cache;
 use lineset::LineSet;
 use model::Line;
 use model::Verdict;
 
-// H: the lines that the preempters evict.
-pub fn evicted_lines(file: &[u8]) -> LineSet
-    requires { ⌜ verdict (now file) ≡ Verdict.Accepted ⌝ }
-    ensures { λ r. ⌜ ((c : ℕ) → members r c ≡ evicted (taskOf (now (file .entry))) c) ⌝ }
-{
-    let first = taskfile::block_count(file) + 1;
-    let end = first + taskfile::preempter_count(file);
-    let mut words = [0u64; 8];
-    let mut k = first;
-    while k < end {
-        add_reads(&mut words, file, k);
-        k += 1;
-    }
-    LineSet { words }
-}
+// Set k of the array is U(k), set ACCESSED_USEFUL + k is A(k), and set EVICTED is H.
+pub const ACCESSED_USEFUL: usize = 65;
 
-// Adds the lines that block k of the file reads to a set.
-fn add_reads(words: &mut [u64; 8], file: &[u8], k: usize)
-    requires { ⌜ length (now words) ≡ 8 ⌝ }
-    requires { ⌜ (verdict (now file) ≡ Verdict.Accepted) × (1 ≤ k) × (k ≤ header (now file) .blocks + header (now file) .preempters) ⌝ }
-    ensures { λ _. ⌜ length (now (words .exit)) ≡ 8 ⌝ }
-    ensures { λ _. ⌜ ((d : ℕ) → inWords (now (words .exit)) d ≡ (inWords (now (words .entry)) d || anyRead (onLine (taskOf (now (file .entry))) d) (entryReads (now (file .entry)) k))) ⌝ }
+pub const EVICTED: usize = 130;
+
+// Finds the sets of all edges; the array is lent with zeros everywhere.
+pub fn find_lines(file: &[u8], sets: &mut [u64; 1048])
+    requires { ⌜ (verdict (now file) ≡ Verdict.Accepted) × (now sets ≡ replicate 1048 0) ⌝ }
+    ensures { λ _. ⌜ Ready (now (file .entry)) (now (sets .exit)) ⌝ }
 {
-    let count = taskfile::line_count(file);
-    let inverse = cacheline::inverse_of(count);
-    let reads = taskfile::read_count(file, k);
-    let mut j = 0;
-    while j < reads {
-        let c = cacheline::line_of(taskfile::read(file, k, j), count, inverse);
-        let w = c >> 6;
-        words[w] = words[w] | (1 << (c & 63));
-        j += 1;
-    }
+    walk_reads(file, sets);
+    edgesets::settle(sets);
+    edgesets::keep_common(sets);
+    edgesets::put(sets, EVICTED, evicted_lines(file));
 }
 
 // U(k).
@@ -55,35 +38,74 @@ pub fn useful_lines(file: &[u8], k: usize) -> LineSet
     requires { ⌜ (verdict (now file) ≡ Verdict.Accepted) × (k ≤ blockCount (taskOf (now file))) ⌝ }
     ensures { λ r. ⌜ ((c : ℕ) → members r c ≡ Lines.useful (taskOf (now (file .entry))) k c) ⌝ }
 {
-    let mut useful = [0u64; 520];
-    let mut accessed = [0u64; 520];
-    edge_lines(file, &mut useful, &mut accessed);
-    edgesets::lines_at(&useful, k)
+    let mut sets = [0u64; 1048];
+    find_lines(file, &mut sets);
+    edgesets::lines_at(&sets, k)
 }
 
-// U(k) for every edge k, and A(k) for every basic block k.
-pub fn edge_lines(file: &[u8], useful: &mut [u64; 520], accessed: &mut [u64; 520])
-    requires { ⌜ (verdict (now file) ≡ Verdict.Accepted) × (length (now useful) ≡ 520) × (length (now accessed) ≡ 520) ⌝ }
-    ensures { λ _. ⌜ EdgeSets (blockCount (taskOf (now (file .entry)))) (Lines.useful (taskOf (now (file .entry)))) (now (useful .exit)) ⌝ }
-    ensures { λ _. ⌜ EdgeSets (blockCount (taskOf (now (file .entry)))) (accessedUseful (taskOf (now (file .entry)))) (now (accessed .exit)) ⌝ }
+// H: the lines that the preempters evict. They are marked first, and each is then added to the set once.
+fn evicted_lines(file: &[u8]) -> LineSet
+    requires { ⌜ verdict (now file) ≡ Verdict.Accepted ⌝ }
+    ensures { λ r. ⌜ ((c : ℕ) → members r c ≡ evicted (taskOf (now (file .entry))) c) ⌝ }
 {
-    edgesets::clear(useful);
-    edgesets::clear(accessed);
-    walk_reads(file, useful, accessed);
-    edgesets::settle(useful);
-    edgesets::keep_common(accessed, useful);
+    let cache = cacheline::cache_of(file);
+    let first = taskfile::block_count(file) + 1;
+    let end = first + taskfile::preempter_count(file);
+    let mut marks = [false; 512];
+    let mut k = first;
+    while k < end {
+        mark_reads(&mut marks, file, cache, k);
+        k += 1;
+    }
+    marked_lines(&marks, cache.count as usize)
+}
+
+// Marks the lines that block k of the file reads.
+fn mark_reads(marks: &mut [bool; 512], file: &[u8], cache: Cache, k: usize)
+    requires { ⌜ length (now marks) ≡ 512 ⌝ }
+    requires { ⌜ (verdict (now file) ≡ Verdict.Accepted) × (1 ≤ k) × (k ≤ header (now file) .blocks + header (now file) .preempters) ⌝ }
+    requires { ⌜ CacheOf (taskOf (now file)) cache ⌝ }
+    ensures { λ _. ⌜ length (now (marks .exit)) ≡ 512 ⌝ }
+    ensures { λ _. ⌜ ((d : ℕ) → d < 512 → getD (now (marks .exit)) d false ≡ (getD (now (marks .entry)) d false || anyRead (onLine (taskOf (now (file .entry))) d) (entryReads (now (file .entry)) k))) ⌝ }
+{
+    let reads = taskfile::read_count(file, k);
+    let mut j = 0;
+    while j < reads {
+        let c = cache.line_of(taskfile::read(file, k, j));
+        marks[c] = true;
+        j += 1;
+    }
+}
+
+// The set of the lines below count that are marked.
+fn marked_lines(marks: &[bool; 512], count: usize) -> LineSet
+    requires { ⌜ (length (now marks) ≡ 512) × (count ≤ 512) ⌝ }
+    ensures { λ r. ⌜ ((d : ℕ) → members r d ≡ (ltb d count && getD (now (marks .entry)) d false)) ⌝ }
+{
+    let mut set = LineSet::empty();
+    let mut c = 0;
+    while c < count {
+        set = with_marked(set, c, marks[c]);
+        c += 1;
+    }
+    set
+}
+
+// A set with line c, if it is marked.
+fn with_marked(lines: LineSet, c: usize, marked: bool) -> LineSet
+    requires { ⌜ c < 512 ⌝ }
+    ensures { λ r. ⌜ ((d : ℕ) → members r d ≡ (members lines d || eqb d c && marked)) ⌝ }
+{
+    if marked { lines.with(c) } else { lines }
 }
 
 // U(k) as toggles and T(k), in one walk over the reads: what each line holds, and the block that read it last.
-fn walk_reads(file: &[u8], useful: &mut [u64; 520], accessed: &mut [u64; 520])
-    requires { ⌜ verdict (now file) ≡ Verdict.Accepted ⌝ }
-    requires { ⌜ EdgeSets 64 (λ k c. false) (now useful) × EdgeSets 64 (λ k c. false) (now accessed) ⌝ }
-    ensures { λ _. ⌜ EdgeToggles (blockCount (taskOf (now (file .entry)))) (Lines.useful (taskOf (now (file .entry)))) (now (useful .exit)) ⌝ }
-    ensures { λ _. ⌜ EdgeSets (blockCount (taskOf (now (file .entry)))) (Lines.accessed (taskOf (now (file .entry)))) (now (accessed .exit)) ⌝ }
+fn walk_reads(file: &[u8], sets: &mut [u64; 1048])
+    requires { ⌜ (verdict (now file) ≡ Verdict.Accepted) × (now sets ≡ replicate 1048 0) ⌝ }
+    ensures { λ _. ⌜ Collected (now (file .entry)) (now (sets .exit)) ⌝ }
 {
+    let cache = cacheline::cache_of(file);
     let blocks = taskfile::block_count(file);
-    let count = taskfile::line_count(file);
-    let inverse = cacheline::inverse_of(count);
     let mut held = [Line::Empty; 512];
     let mut since = [0usize; 512];
     let mut i = 0;
@@ -93,10 +115,10 @@ fn walk_reads(file: &[u8], useful: &mut [u64; 520], accessed: &mut [u64; 520])
         let mut j = 0;
         while j < reads {
             let number = taskfile::read(file, k, j);
-            let c = cacheline::line_of(number, count, inverse);
+            let c = cache.line_of(number);
             let line = held[c];
-            add_reread(useful, line, number, c, since[c], k);
-            edgesets::add_line(accessed, c, k);
+            add_reread(sets, line, number, c, since[c], k);
+            edgesets::add_line(sets, c, ACCESSED_USEFUL + k);
             held[c] = Line::Held(number);
             since[c] = k;
             j += 1;
@@ -106,10 +128,11 @@ fn walk_reads(file: &[u8], useful: &mut [u64; 520], accessed: &mut [u64; 520])
 }
 
 // Toggles line c at the edges from `from` up to `to` if it holds the number that is read.
-fn add_reread(sets: &mut [u64; 520], line: Line, number: u32, c: usize, from: usize, to: usize)
-    requires { ⌜ (length (now sets) ≡ 520) × (c < 512) × (from ≤ to) × (to < 65) ⌝ }
-    ensures { λ _. ⌜ length (now (sets .exit)) ≡ 520 ⌝ }
+fn add_reread(sets: &mut [u64; 1048], line: Line, number: u32, c: usize, from: usize, to: usize)
+    requires { ⌜ (length (now sets) ≡ 1048) × (c < 512) × (from ≤ to) × (to < 65) ⌝ }
+    ensures { λ _. ⌜ length (now (sets .exit)) ≡ 1048 ⌝ }
     ensures { λ _. ⌜ ((k d : ℕ) → toggledAt (now (sets .exit)) k d ≡ xor (toggledAt (now (sets .entry)) k d) (sameBlock line (Line.Held number) && eqb d c && (leb from k && ltb k to))) ⌝ }
+    ensures { λ _. ⌜ ((k d : ℕ) → 65 ≤ k → linesAt (now (sets .exit)) k d ≡ linesAt (now (sets .entry)) k d) ⌝ }
 {
     let again = holds(line, number);
     edgesets::toggle(sets, again, c, from);

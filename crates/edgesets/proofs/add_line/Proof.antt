@@ -1,10 +1,10 @@
--- `edgesets::add_line` meets its contract: the line's digit is set in its word of edge k.
+-- `edgesets::add_line` meets its contract: the line's digit is set in its word of set i.
 -- Assumes nothing.
 use mathlib.Core.Path.{_∙_}
 use lib.ListN.{length-set}
 use lib.Bits.{mask-lt}
 use borrow.Author.Needs.{needs}
-use Rattle.edgesets.proofs.Edges.{edge-added}
+use Rattle.edgesets.proofs.Edges.{set-added}
 use Rattle.edgesets.proofs.add_line.Statement.{statement}
 use Rattle.edgesets.proofs.add_line.Tie as tie
 
@@ -32,7 +32,7 @@ element-write-sets c = search needs
 returns : tie.Need-returns
 returns c =
     let a = c .before .args in
-    (length-set (a .sets .now) _ _ ∙ c .before .pre .0, edge-added (a .sets .now) (a .k) (a .c) (c .before .pre .0) (c .before .pre .2) (c .before .pre .1))
+    (length-set (a .sets .now) _ _ ∙ c .before .pre .0, set-added (a .sets .now) (a .i) (a .c) (c .before .pre .0) (c .before .pre .2) (c .before .pre .1))
 
 pub add-line-spec : {M : Type 1} → statement M
 add-line-spec =

@@ -1,4 +1,4 @@
--- `edgesets::lines_at` meets its contract. The loop's invariant: the words below w are those of edge k.
+-- `edgesets::lines_at` meets its contract. The loop's invariant: the words below w are those of set i.
 -- Assumes nothing.
 use Prim.Native.Nat.{ℕ, _+_, _-_, _*_, _≤_, _<_}
 use mathlib.Core.Path.{_≡_, refl, sym, ap, _∙_}
@@ -31,16 +31,16 @@ module _ (sets : List ℕ) (k : ℕ) where
             (getD-set-same words w v 0 (omega (arith, i .eight)));
       }
 
-  all : (w : ℕ) (words : List ℕ) → 8 ≤ w → length sets ≡ 520 → k < 65 → Copied w words → words ≡ wordsAt sets k
+  all : (w : ℕ) (words : List ℕ) → 8 ≤ w → length sets ≡ 1048 → k < 131 → Copied w words → words ≡ wordsAt sets k
   all w words h long l i =
       ext-getD 0 words (wordsAt sets k) (i .eight ∙ sym (eight-at sets k long l))
       (λ j m. i .copied j (omega (arith, i .eight)) ∙ sym (word-at sets k j (omega (arith, i .eight))))
 
 abbrev Inv-loop : tie.InvT-loop
-Inv-loop sets k words₀ w₀ words w = Copied sets k w words
+Inv-loop sets i words₀ w₀ words w = Copied sets i w words
 
 abbrev μ-loop : tie.MeasureT-loop
-μ-loop sets k words₀ w₀ words w = 8 - w
+μ-loop sets i words₀ w₀ words w = 8 - w
 
 loop-holds : tie.Need-loop-holds Inv-loop μ-loop
 loop-holds c = record { within = omega arith; eight = refl; copied = below-none _ }

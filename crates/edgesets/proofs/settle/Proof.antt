@@ -2,7 +2,7 @@
 -- Assumes nothing.
 use Prim.Native.Nat.{_-_, _≤_}
 use native.Mathlib.Omega.{arith}
-use Rattle.edgesets.proofs.Toggles.{Settled, settled-none, settled-more, settled-all}
+use Rattle.edgesets.proofs.Toggles.{Settled, settled-none, settled-more, settled-all, settled-rest}
 use Rattle.edgesets.proofs.settle.Statement.{statement}
 use Rattle.edgesets.proofs.settle.Tie as tie
 
@@ -49,8 +49,13 @@ loop-again c =
 
 returns : tie.Need-returns Inv-loop μ-loop
 returns c =
-    let l = c .before .loop in
-    (l .inv .2 .long, settled-all _ (l .i) (l .sets) (c .before .before .pre) (omega arith) (l .inv .2))
+    let l = c .before .loop in (
+      l .inv .2 .long,
+      (
+        settled-all _ (l .i) (l .sets) (c .before .before .pre) (omega arith) (l .inv .2),
+        settled-rest _ (l .i) (l .sets) (c .before .before .pre) (omega arith) (l .inv .2),
+      ),
+    )
 
 pub settle-spec : {M : Type 1} → statement M
 settle-spec =

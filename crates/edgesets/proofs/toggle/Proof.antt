@@ -1,10 +1,13 @@
--- `edgesets::toggle` meets its contract: the line's digit changes in its word of edge k, if on.
+-- `edgesets::toggle` meets its contract: the line's digit changes in its word of set i, if on.
 -- Assumes nothing.
 use mathlib.Core.Path.{_∙_}
 use lib.ListN.{length-set}
-use lib.Bits.{mask-lt}
+use mathlib.Core.Bool.{xor}
+use lib.Bits.{bitXor, mask-lt}
 use borrow.Author.Needs.{needs}
-use Rattle.edgesets.proofs.Toggles.{edge-toggled}
+use Rattle.edgesets.proofs.Toggles.{xor-false}
+use Rattle.edgesets.proofs.Edges.{set-changed}
+use Rattle.model.proofs.Digits.{digit-xor}
 use Rattle.edgesets.proofs.toggle.Statement.{statement}
 use Rattle.edgesets.proofs.toggle.Tie as tie
 
@@ -36,7 +39,7 @@ returns : tie.Need-returns
 returns c =
     let a = c .before .args in (
       length-set (a .sets .now) _ _ ∙ c .before .pre .0,
-      edge-toggled (a .on) (a .sets .now) (a .k) (a .c) (c .before .pre .0) (c .before .pre .2) (c .before .pre .1),
+      set-changed bitXor xor digit-xor xor-false (a .on) (a .sets .now) (a .i) (a .c) (c .before .pre .0) (c .before .pre .2) (c .before .pre .1),
     )
 
 pub toggle-spec : {M : Type 1} → statement M

@@ -12,10 +12,14 @@ cast-count : tie.Need-cast-count
 cast-count c = search needs
 
 array-share-prefix-points : tie.Need-array-share-prefix-points
-array-share-prefix-points c = let first = c .before .before .before .args .first in omega (arith, points-long (first .count) (first .points) (search needs) (search needs))
+array-share-prefix-points c =
+    let first = c .before .before .before .args .first in
+    omega (arith, points-long (first .count) (first .points) (search needs) (search needs))
 
 slice-aggregate-price-of : tie.Need-slice-aggregate-price-of
-slice-aggregate-price-of c = let first = c .before .before .before .before .args .first in sym (count-is (first .count) (first .points) (search needs) (search needs))
+slice-aggregate-price-of c =
+    let first = c .before .before .before .before .args .first in
+    sym (count-is (first .count) (first .points) (search needs) (search needs))
 
 price-of-requires : tie.Need-price-of-requires
 price-of-requires c κs = search needs
@@ -36,31 +40,25 @@ returns c =
     let answers = c .no-plan .ensures in
     rw (answers .0, answers .1, ← price .ensures .verdict, told) (refl, refl)
 
-block-count-requires : tie.Need-block-count-requires
-block-count-requires c κs = search needs
-
-id-requires : tie.Need-id-requires
-id-requires c κs = search needs
-
 plan-of-requires : tie.Need-plan-of-requires
 plan-of-requires c κs =
-    let start = c .before .before .before .before .before .before .before .before .before in
-    let first = start .args .first in
-    let price = c .before .before .before .before .price-of in (
-      c .before .block-count .ensures .2,
+    let price = c .before .before .price-of in
+    let start = c .before .before .before .before .before .before .before in
+    let first = start .args .first in (
+      start .pre .0,
+      start .pre .1 .0,
       lines-fit (first .count) (first .points) (search needs) (search needs) (taskOf (start .args .file .now))
-          (sym (price .ensures .verdict) ∙ c .before .before .enum-told .given .1) (price .result) (price .ensures),
+          (sym (price .ensures .verdict) ∙ c .enum-told .given .1) (price .result) (price .ensures),
     )
 
 returns-2 : tie.Need-returns-2
 returns-2 c =
-    let start = c .before .before .before .before .before .before .before .before .before .before in
+    let price = c .before .before .before .price-of in
+    let start = c .before .before .before .before .before .before .before .before in
     let first = start .args .first in
-    let price = c .before .before .before .before .before .price-of in
-    let t = taskOf (start .args .file .now) in
-    let accepted = sym (price .ensures .verdict) ∙ c .before .before .before .enum-told .given .1 in
-    rw (accepted, c .plan-of .ensures, c .before .before .block-count .ensures .0, c .before .id .ensures)
-    (refl, follows (first .count) (first .points) (search needs) (search needs) t accepted (price .result) (price .ensures))
+    let accepted = sym (price .ensures .verdict) ∙ c .before .enum-told .given .1 in
+    rw (accepted, c .plan-of .ensures)
+    (c .before .enum-told .given .1, follows (first .count) (first .points) (search needs) (search needs) (taskOf (start .args .file .now)) accepted (price .result) (price .ensures))
 
 pub price-points-spec : {M : Type 1} → statement M
 price-points-spec =
@@ -74,7 +72,5 @@ price-points-spec =
     enum-told-2
     no-plan-requires
     returns
-    block-count-requires
-    id-requires
     plan-of-requires
     returns-2)

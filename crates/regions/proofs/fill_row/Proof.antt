@@ -1,45 +1,33 @@
 -- `regions::fill_row` meets its contract. The loop's invariant: the run is that of the blocks from edge a on, and the row holds the regions up to its end.
 -- Where the next region is above the limit, so are all longer ones, and none stands for them already. Assumes nothing.
 use Prim.Native.Nat.{_+_, _-_, _≤_}
-use mathlib.Core.Path.{_≡_, _∙_}
+use mathlib.Core.Path.{_≡_, sym, _∙_}
 use native.Mathlib.Omega.{arith}
-use borrow.Author.Needs.{needs}
+use borrow.Author.Tests.{not-true, not-false}
 use Rattle.model.specs.Task.{blockCount}
 use Rattle.taskfile.specs.File.{taskOf}
-use Rattle.regions.specs.Answers.{Spans, Measures, Row}
-use Rattle.regions.proofs.Runs.{spans-none}
-use Rattle.regions.proofs.Measured.{measured-cost, measured-within, measured-above}
+use Rattle.regions.specs.Measures.{Spans, Measures, FilledRow}
 use Rattle.regions.proofs.Rows.{row-none, row-more, row-ends}
 use Rattle.regions.proofs.fill_row.Statement.{statement}
 use Rattle.regions.proofs.fill_row.Tie as tie
 
 abbrev Inv-loop : tie.InvT-loop
-Inv-loop file useful accessed evicted a table₀ n limit run₀ table run =
-    Spans (taskOf file) run × (run .from ≡ a) × (run .to ≤ n) × Row (taskOf file) a (run .to) table₀ table
+Inv-loop file sets a table₀ n run₀ table run =
+    Spans (taskOf file) run × (run .from ≡ a) × (run .to ≤ n) × FilledRow (taskOf file) a (run .to) table₀ table
 
 abbrev μ-loop : tie.MeasureT-loop
-μ-loop file useful accessed evicted a table₀ n limit run₀ table run = n - run .to
+μ-loop file sets a table₀ n run₀ table run = n - run .to
 
 block-count-requires : tie.Need-block-count-requires Inv-loop μ-loop
 block-count-requires c κs = c .before .pre .0 .accepted
 
-limit-requires : tie.Need-limit-requires Inv-loop μ-loop
-limit-requires c κs = c .before .before .pre .0 .accepted
-
-cast-limit : tie.Need-cast-limit Inv-loop μ-loop
-cast-limit c = search needs
-
 start-requires : tie.Need-start-requires Inv-loop μ-loop
-start-requires c κs = search needs
+start-requires c κs = (c .before .before .pre .0, omega arith)
 
 loop-holds : tie.Need-loop-holds Inv-loop μ-loop
 loop-holds c =
-    let none = c .start .ensures in (
-      spans-none _ _ (omega arith) (omega arith) (none .2) (none .3),
-      none .0,
-      omega arith,
-      rw (none .1) (row-none (c .before .before .before .before .pre .2)),
-    )
+    let none = c .start .ensures in
+    (none .0, none .1, omega arith, rw (none .2) (row-none (c .before .before .before .pre .2)))
 
 mul-at : tie.Need-mul-at Inv-loop μ-loop
 mul-at c = omega arith
@@ -50,18 +38,17 @@ add-at c = omega arith
 longer-requires : tie.Need-longer-requires Inv-loop μ-loop
 longer-requires c κs =
     let at = c .before .before .before in
-    let ready = at .before .before .before .before .before .pre .0 in
-    ((ready .accepted, ready .accessed), (at .loop .inv .0, omega arith))
+    (at .before .before .before .before .pre .0, at .loop .inv .0, omega arith)
 
 region-of-requires : tie.Need-region-of-requires Inv-loop μ-loop
 region-of-requires c κs =
-    let ready = c .before .before .before .before .before .before .before .before .before .pre .0 in
-    ((ready .accepted, ready .useful, ready .evicted), c .longer .ensures .0)
+    let at = c .before .before .before .before in
+    (at .before .before .before .before .pre .0 .accepted, c .longer .ensures .0)
 
 -- the region to the edge after the run
 region : (c : tie.After-region-of Inv-loop μ-loop)
     → let at = c .before .before .before .before .before in
-    let args = at .before .before .before .before .before .args in
+    let args = at .before .before .before .before .args in
     Measures (taskOf (args .file .now)) (args .a) (at .loop .run .to + 1) (c .region-of .result)
 region c =
     let grown = c .before .longer .ensures in
@@ -72,12 +59,9 @@ returns : tie.Need-returns Inv-loop μ-loop
 returns c =
     let measured = c .before .before in
     let at = measured .before .before .before .before .before in
-    let start = at .before .before .before .before .before in
+    let start = at .before .before .before .before in
     row-ends (at .loop .run .to) _ (at .loop .table) (omega arith) (omega arith) (start .pre .3) (at .loop .inv .3)
-    (measured-above (region measured) (at .before .before .limit .ensures) (c .if2 .taken))
-
-cost-requires : tie.Need-cost-requires Inv-loop μ-loop
-cost-requires c κs = c .before .before .before .before .before .before .before .before .before .before .before .before .pre .0 .accepted
+    (sym (region measured .fits) ∙ not-true (measured .region-of .result .fits) (c .if2 .taken))
 
 mul-table : tie.Need-mul-table Inv-loop μ-loop
 mul-table c = omega arith
@@ -90,7 +74,7 @@ loop-less c = omega arith
 
 loop-again : tie.Need-loop-again Inv-loop μ-loop
 loop-again c =
-    let measured = c .before .before .before in
+    let measured = c .before .before in
     let at = measured .before .before .before .before .before in
     let k = at .loop .run .to in
     let inv = at .loop .inv in
@@ -99,16 +83,16 @@ loop-again c =
       omega arith,
       omega arith,
       rw (grown .2)
-          (row-more k (c .cost .result) (at .loop .table) (omega (arith, inv .0 .rising, inv .1)) (omega arith) (inv .3)
-          (measured-within (region measured) (at .before .before .limit .ensures) (c .before .if2 .left))
-          (c .cost .ensures .0 ∙ measured-cost (region measured))
-          (c .cost .ensures .1)),
+          (row-more k (measured .region-of .result .cost) (at .loop .table) (omega (arith, inv .0 .rising, inv .1)) (omega arith) (inv .3)
+          (sym (region measured .fits) ∙ not-false (measured .region-of .result .fits) (c .if2 .left))
+          (region measured .cost)
+          (omega (arith, region measured .small))),
     )
 
 returns-2 : tie.Need-returns-2 Inv-loop μ-loop
 returns-2 c =
     let at = c .before .before in
-    let file = at .before .before .before .before .before .args .file .now in
+    let file = at .before .before .before .before .args .file .now in
     let end : at .loop .run .to ≡ blockCount (taskOf file) = omega arith in
     rw end at (at .loop .inv .3)
 
@@ -119,8 +103,6 @@ fill-row-spec =
     Inv-loop
     μ-loop
     block-count-requires
-    limit-requires
-    cast-limit
     start-requires
     loop-holds
     mul-at
@@ -128,7 +110,6 @@ fill-row-spec =
     longer-requires
     region-of-requires
     returns
-    cost-requires
     mul-table
     element-write-table
     loop-less

@@ -9,10 +9,10 @@ use Rattle.regions.proofs.fill_table.Statement.{statement}
 use Rattle.regions.proofs.fill_table.Tie as tie
 
 abbrev Inv-loop : tie.InvT-loop
-Inv-loop file useful accessed evicted table₀ n a₀ table a = (a ≤ n) × Filled (taskOf file) (blockCount (taskOf file)) a table
+Inv-loop file sets table₀ n a₀ table a = (a ≤ n) × Filled (taskOf file) (blockCount (taskOf file)) a table
 
 abbrev μ-loop : tie.MeasureT-loop
-μ-loop file useful accessed evicted table₀ n a₀ table a = n - a
+μ-loop file sets table₀ n a₀ table a = n - a
 
 block-count-requires : tie.Need-block-count-requires Inv-loop μ-loop
 block-count-requires c κs = c .before .pre .0 .accepted

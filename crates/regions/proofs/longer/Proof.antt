@@ -13,13 +13,16 @@ use Rattle.regions.proofs.longer.Statement.{statement}
 use Rattle.regions.proofs.longer.Tie as tie
 
 below : (c : tie.Start) → c .args .run .to < 64
-below c = omega (arith, few-blocks (c .args .file .now) (c .pre .0 .0))
+below c = omega (arith, few-blocks (c .args .file .now) (c .pre .0 .accepted))
 
 add-next : tie.Need-add-next
 add-next c = omega (arith, below (c .before))
 
+add-lines-at : tie.Need-add-lines-at
+add-lines-at c = omega (arith, below (c .before .before))
+
 lines-at-requires : tie.Need-lines-at-requires
-lines-at-requires c κs = (c .before .pre .0 .1 .long, omega (arith, below (c .before)))
+lines-at-requires c κs = (c .before .before .pre .0 .long, omega (arith, below (c .before .before)))
 
 union-requires : tie.Need-union-requires
 union-requires c κs = search needs
@@ -31,23 +34,26 @@ cast-time : tie.Need-cast-time
 cast-time c = search needs
 
 add-time : tie.Need-add-time
-add-time c = omega (arith, below (c .before .before .before .before .before))
+add-time c = omega (arith, below (c .before .before .before .before .before .before))
 
 returns : tie.Need-returns
 returns c =
-    let start = c .before .before .before .before .before in
+    let timed = c .before in
+    let start = timed .before .before .before .before .before in
     let t = taskOf (start .args .file .now) in
     let run = start .args .run in
-    let spans = start .pre .1 .0 in (
+    let ready = start .pre .0 in
+    let spans = start .pre .1 in (
       record {
         rising = omega arith;
         within = omega arith;
+        lost = spans .lost;
         lines =
             λ d.
-            c .before .before .union .ensures d ∙
-            ap₂ _||_ (spans .lines d) (c .before .before .before .lines-at .ensures d ∙ start .pre .0 .1 .lines (run .to + 1) d (omega arith)) ∙
+            timed .before .union .ensures d ∙
+            ap₂ _||_ (spans .lines d) (timed .before .before .lines-at .ensures d ∙ ready .accessedUseful (run .to + 1) d (omega arith)) ∙
             sym (union-more (run .from) (run .to) (spans .rising) (accessedUseful t) d);
-        time = ap₂ _+_ (spans .time) (c .before .time .ensures) ∙ sym (time-more (run .from) (run .to) (spans .rising) t);
+        time = ap₂ _+_ (spans .time) (timed .time .ensures) ∙ sym (time-more (run .from) (run .to) (spans .rising) t);
         small = omega arith;
       },
       refl,
@@ -59,6 +65,7 @@ longer-spec =
     tie.close
     (tie.spec
     add-next
+    add-lines-at
     lines-at-requires
     union-requires
     time-requires

@@ -3,46 +3,38 @@
 use Prim.Native.Nat.{_-_, _≤_}
 use mathlib.Core.Path.{_≡_}
 use native.Mathlib.Omega.{arith}
-use borrow.Author.Needs.{needs}
 use Rattle.taskfile.specs.File.{taskOf}
-use Rattle.regions.specs.Answers.{Spans}
-use Rattle.regions.proofs.Runs.{spans-none}
+use Rattle.regions.specs.Measures.{Spans}
 use Rattle.regions.proofs.region_between.Statement.{statement}
 use Rattle.regions.proofs.region_between.Tie as tie
 
 abbrev Inv-loop : tie.InvT-loop
-Inv-loop file useful accessed evicted a b run₀ run = Spans (taskOf file) run × (run .from ≡ a) × (run .to ≤ b)
+Inv-loop file sets a b run₀ run = Spans (taskOf file) run × (run .from ≡ a) × (run .to ≤ b)
 
 abbrev μ-loop : tie.MeasureT-loop
-μ-loop file useful accessed evicted a b run₀ run = b - run .to
+μ-loop file sets a b run₀ run = b - run .to
 
 start-requires : tie.Need-start-requires Inv-loop μ-loop
-start-requires c κs = search needs
+start-requires c κs = (c .before .pre .0, omega arith)
 
 loop-holds : tie.Need-loop-holds Inv-loop μ-loop
-loop-holds c =
-    let none = c .start .ensures in
-    (spans-none _ _ (omega arith) (omega arith) (none .2) (none .3), none .0, omega arith)
+loop-holds c = (c .start .ensures .0, c .start .ensures .1, omega arith)
 
 longer-requires : tie.Need-longer-requires Inv-loop μ-loop
 longer-requires c κs =
     let at = c .before .before in
-    let ready = at .before .before .before .pre .0 in
-    ((ready .accepted, ready .accessed), (at .loop .inv .0, omega arith))
+    (at .before .before .before .pre .0, at .loop .inv .0, omega arith)
 
 loop-less : tie.Need-loop-less Inv-loop μ-loop
 loop-less c = omega arith
 
 loop-again : tie.Need-loop-again Inv-loop μ-loop
-loop-again c =
-    let grown = c .longer .ensures in
-    (grown .0, omega arith, omega arith)
+loop-again c = (c .longer .ensures .0, omega arith, omega arith)
 
 region-of-requires : tie.Need-region-of-requires Inv-loop μ-loop
 region-of-requires c κs =
     let at = c .before .before in
-    let ready = at .before .before .before .pre .0 in
-    ((ready .accepted, ready .useful, ready .evicted), at .loop .inv .0)
+    (at .before .before .before .pre .0 .accepted, at .loop .inv .0)
 
 returns : tie.Need-returns Inv-loop μ-loop
 returns c =

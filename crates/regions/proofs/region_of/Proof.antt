@@ -1,66 +1,89 @@
--- `regions::region_of` meets its contract: the loaded lines are those in common, and the length is the time and what the reloads cost.
+-- `regions::region_of` meets its contract: the loaded lines are those in common, and length, cost and fit follow from their number.
 -- Assumes nothing.
-use Prim.Native.Nat.{ℕ, _+_, _*_}
-use mathlib.Core.Path.{_≡_, ap, ap₂, _∙_}
+use Prim.Native.Nat.{ℕ, _+_, _*_, _^_, _≤_, _<_}
+use mathlib.Core.Path.{_≡_, ap₂, _∙_}
 use mathlib.Core.Bool.{_&&_}
 use native.Mathlib.Omega.{arith}
+use lib.Dec.{leb}
 use borrow.Author.Needs.{needs}
-use Rattle.model.specs.Regions.{loaded, regionLines, regionLength}
+use Rattle.model.specs.Regions.{loaded, regionLines, regionLength, regionFits, regionCost}
 use Rattle.model.proofs.Sets.{size-agree}
 use Rattle.lineset.specs.Members.{members}
 use Rattle.taskfile.specs.File.{taskOf}
 use Rattle.taskfile.proofs.Accepted.{few-blocks}
+use Rattle.regions.proofs.Widths.{few-lines, cost-le}
 use Rattle.regions.proofs.region_of.Statement.{statement}
 use Rattle.regions.proofs.region_of.Tie as tie
-
-lines-at-requires : tie.Need-lines-at-requires
-lines-at-requires c κs = (
-  c .before .pre .0 .1 .long,
-  omega (arith, few-blocks (c .before .args .file .now) (c .before .pre .0 .0), c .before .pre .1),
-)
 
 common-requires : tie.Need-common-requires
 common-requires c κs = search needs
 
-common-requires-2 : tie.Need-common-requires-2
-common-requires-2 c κs = search needs
+size-requires : tie.Need-size-requires
+size-requires c κs = search needs
 
-cost-requires : tie.Need-cost-requires
-cost-requires c κs = search needs
+reload-requires : tie.Need-reload-requires
+reload-requires c κs = search needs
+
+cast-cost : tie.Need-cast-cost
+cast-cost c = search needs
+
+cast-cost-2 : tie.Need-cast-cost-2
+cast-cost-2 c = search needs
+
+few : (c : tie.After-reload) → c .before .size .result ≤ 512
+few c = few-lines (c .before .before .common .result) (c .before .size .ensures)
+
+small : (c : tie.After-reload) → c .reload .result * c .before .size .result ≤ 4294967295 * 512
+small c = cost-le 512 {reload = c .reload .result} (omega arith) (few c)
+
+mul-cost : tie.Need-mul-cost
+mul-cost c = omega (arith, small c)
 
 add-length : tie.Need-add-length
 add-length c =
-    let start = c .before .before .before .before .before .before in
-    omega (arith, start .pre .1 .small, start .pre .1 .within, few-blocks (start .args .file .now) (start .pre .0 .0))
+    let start = c .before .before .before .before .before in
+    omega (arith, small (c .before), start .pre .1 .small, start .pre .1 .within, few-blocks (start .args .file .now) (start .pre .0))
+
+limit-requires : tie.Need-limit-requires
+limit-requires c κs = search needs
+
+cast-t9 : tie.Need-cast-t9
+cast-t9 c = search needs
 
 returns : tie.Need-returns
-unfolding loaded regionLines regionLength
+unfolding loaded regionLines regionLength regionFits regionCost
 returns c =
-    let priced = c .before in
-    let both = priced .before in
-    let start = both .before .before .before .before in
+    let priced = c .before .before in
+    let both = priced .before .before .common in
+    let start = priced .before .before .before .before in
     let t = taskOf (start .args .file .now) in
     let run = start .args .run in
     let spans = start .pre .1 in
-    let lines : (d : ℕ) → members (both .common2 .result) d ≡ loaded t (run .from) (run .to) d =
-    λ d.
-    both .common2 .ensures d ∙
-    ap₂ _&&_
-    (both .before .common .ensures d ∙
-    ap₂ _&&_ (both .before .before .lines-at .ensures d ∙ start .pre .0 .1 .lines (run .from) d (omega arith)) (start .pre .0 .2 d))
-    (spans .lines d) in
+    let lines : (d : ℕ) → members (both .result) d ≡ loaded t (run .from) (run .to) d = λ d. both .ensures d ∙ ap₂ _&&_ (spans .lost d) (spans .lines d) in
+    let count : priced .before .size .result ≡ regionLines t (run .from) (run .to) = priced .before .size .ensures ∙ size-agree (λ d _. lines d) in
+    let cost = ap₂ _*_ (priced .reload .ensures) count in
+    let length = ap₂ _+_ (spans .time) cost in
     record {
       loaded = lines;
-      length = ap₂ _+_ (spans .time) (priced .cost .ensures .0 ∙ ap (λ (n : ℕ). t .reload * n) (size-agree (λ d _. lines d)));
+      lines = count;
+      length = length;
+      cost = cost;
+      fits = ap₂ leb length (c .limit .ensures);
+      few = few priced;
+      small = omega (arith, small priced);
     }
 
 pub region-of-spec : {M : Type 1} → statement M
 region-of-spec =
     tie.close
     (tie.spec
-    lines-at-requires
     common-requires
-    common-requires-2
-    cost-requires
+    size-requires
+    reload-requires
+    cast-cost
+    cast-cost-2
+    mul-cost
     add-length
+    limit-requires
+    cast-t9
     returns)

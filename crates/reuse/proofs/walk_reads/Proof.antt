@@ -1,53 +1,60 @@
 -- `reuse::walk_reads` meets its contract. Both loops keep the state of the walk after the reads passed.
 -- Assumes nothing.
-use Prim.Native.Nat.{ℕ, _+_, _-_, _%_, _≤_, _<_}
+use Prim.Native.Nat.{ℕ, _+_, _-_, _≤_, _<_}
 use mathlib.Core.Path.{_≡_, refl, sym, ap, _∙_}
+use mathlib.Core.Bool.{_&&_, _||_, and-false, or-false}
+use mathlib.Core.List.{List}
 use native.Mathlib.Nat.{add-zero}
 use native.Mathlib.Omega.{arith}
 use native.Mathlib.Numerals.{add-one}
+use lib.Dec.{eqb}
 use lib.ListN.{length, getD, replicate, getD-replicate}
 use borrow.Author.Needs.{needs}
+use borrow.Author.Tests.{ne-eqb}
 use Rattle.model.specs.Task.{blockCount}
 use Rattle.model.specs.Lines.{lineOf, blockAt, readsOf}
 use Rattle.model.specs.declared.Line.the-variants.{Empty}
 use Rattle.model.proofs.ReadOrder.{edge, edge-suc, edge-end}
 use Rattle.taskfile.specs.File.{taskOf}
 use Rattle.taskfile.proofs.Accepted as accepted-file
-use Rattle.reuse.proofs.Steps.{Walked, walked-none, walked-more, walked-all, walked-since, Gathered, gathered-none, gathered-more, gathered-block}
+use Rattle.edgesets.specs.Edges.{linesAt}
+use Rattle.edgesets.proofs.Toggles.{toggled-agree}
+use Rattle.reuse.proofs.Steps.{Walked, walked-none, walked-more, walked-same, walked-all, walked-since, Gathered, gathered-none, gathered-same, gathered-more, gathered-block}
 use Rattle.reuse.proofs.walk_reads.Statement.{statement}
 use Rattle.reuse.proofs.walk_reads.Tie as tie
 
+-- a line added to a set from 65 on leaves the sets below
+below-added : (sets sets′ : List ℕ) (e d k line : ℕ) → e < 65 → linesAt sets′ e d ≡ (linesAt sets e d || eqb d line && eqb e (65 + k)) → linesAt sets′ e d ≡ linesAt sets e d
+below-added sets sets′ e d k line h q = q ∙ rw (ne-eqb e (65 + k) (λ s. omega arith), and-false) (or-false (linesAt sets e d))
+
 abbrev Inv-loop2 : tie.InvT-loop2
-Inv-loop2 file useful₀ accessed₀ blocks count inverse held₀ since₀ i k reads j₀ useful accessed held since j =
-    (j ≤ reads) × Walked (taskOf file) (edge (taskOf file) i + j) held since useful × Gathered (taskOf file) i j accessed
+Inv-loop2 file sets₀ cache blocks held₀ since₀ i k reads j₀ sets held since j =
+    (j ≤ reads) × Walked (taskOf file) (edge (taskOf file) i + j) held since sets × Gathered (taskOf file) i j sets
 
 abbrev μ-loop2 : tie.MeasureT-loop2
-μ-loop2 file useful₀ accessed₀ blocks count inverse held₀ since₀ i k reads j₀ useful accessed held since j = reads - j
+μ-loop2 file sets₀ cache blocks held₀ since₀ i k reads j₀ sets held since j = reads - j
 
 abbrev Inv-loop : tie.InvT-loop
-Inv-loop file useful₀ accessed₀ blocks count inverse held₀ since₀ i₀ useful accessed held since i =
-    (i ≤ blocks) × Walked (taskOf file) (edge (taskOf file) i) held since useful × Gathered (taskOf file) i 0 accessed
+Inv-loop file sets₀ cache blocks held₀ since₀ i₀ sets held since i =
+    (i ≤ blocks) × Walked (taskOf file) (edge (taskOf file) i) held since sets × Gathered (taskOf file) i 0 sets
 
 abbrev μ-loop : tie.MeasureT-loop
-μ-loop file useful₀ accessed₀ blocks count inverse held₀ since₀ i₀ useful accessed held since i = blocks - i
+μ-loop file sets₀ cache blocks held₀ since₀ i₀ sets held since i = blocks - i
+
+cache-of-requires : tie.Need-cache-of-requires Inv-loop2 μ-loop2 Inv-loop μ-loop
+cache-of-requires c κs = search needs
 
 block-count-requires : tie.Need-block-count-requires Inv-loop2 μ-loop2 Inv-loop μ-loop
 block-count-requires c κs = search needs
 
-line-count-requires : tie.Need-line-count-requires Inv-loop2 μ-loop2 Inv-loop μ-loop
-line-count-requires c κs = search needs
-
-inverse-of-requires : tie.Need-inverse-of-requires Inv-loop2 μ-loop2 Inv-loop μ-loop
-inverse-of-requires c κs = search needs
-
 loop-holds : tie.Need-loop-holds Inv-loop2 μ-loop2 Inv-loop μ-loop
 unfolding readsOf
 loop-holds c =
-    let start = c .before .before .before .before in (
+    let start = c .before .before .before in (
       search needs,
-      walked-none (taskOf (start .args .file .now)) (replicate 512 Empty) (replicate 512 0) (start .args .useful .now) refl refl
-          (λ d h. getD-replicate 512 d Empty Empty h) (λ d h. getD-replicate 512 d 0 0 h) (start .pre .1 .0),
-      gathered-none (taskOf (start .args .file .now)) (start .args .accessed .now) (start .pre .1 .1),
+      walked-none (taskOf (start .args .file .now)) (replicate 512 Empty) (replicate 512 0) (start .args .sets .now) refl refl
+          (λ d h. getD-replicate 512 d Empty Empty h) (λ d h. getD-replicate 512 d 0 0 h) (start .pre .1),
+      gathered-none (taskOf (start .args .file .now)) (start .args .sets .now) (start .pre .1),
     )
 
 add-k : tie.Need-add-k Inv-loop2 μ-loop2 Inv-loop μ-loop
@@ -55,7 +62,7 @@ add-k c = omega arith
 
 read-count-requires : tie.Need-read-count-requires Inv-loop2 μ-loop2 Inv-loop μ-loop
 read-count-requires c κs =
-    let start = c .before .before .before .before .before .before in
+    let start = c .before .before .before .before .before in
     (start .pre .0, omega arith, omega (arith, accepted-file.block-count (start .args .file .now)))
 
 loop2-holds : tie.Need-loop2-holds Inv-loop2 μ-loop2 Inv-loop μ-loop
@@ -63,7 +70,7 @@ loop2-holds c = (search needs, rw add-zero (c .before .before .loop .inv .1), c 
 
 read-requires : tie.Need-read-requires Inv-loop2 μ-loop2 Inv-loop μ-loop
 read-requires c κs =
-    let start = c .before .before .before .before .before .before .before .before .before in
+    let start = c .before .before .before .before .before .before .before .before in
     ((start .pre .0, omega arith, omega (arith, accepted-file.block-count (start .args .file .now))), omega arith)
 
 line-of-requires : tie.Need-line-of-requires Inv-loop2 μ-loop2 Inv-loop μ-loop
@@ -83,7 +90,7 @@ array-read-add-reread c = omega arith
 
 add-reread-requires : tie.Need-add-reread-requires Inv-loop2 μ-loop2 Inv-loop μ-loop
 add-reread-requires c κs =
-    let file = c .before .before .before .before .before .before .before .before .before .before .before .before .before .args .file .now in
+    let file = c .before .before .before .before .before .before .before .before .before .before .before .before .args .file .now in
     let outer = c .before .before .before .before .before .before .before .before .loop in
     let inner = c .before .before .before .before .before .loop2 in
     let inside : outer .i < blockCount (taskOf file) = omega arith in
@@ -91,9 +98,12 @@ add-reread-requires c κs =
     let counted : inner .j ≤ length (blockAt (taskOf file) (outer .i) .reads) = rw reads-are (omega arith) in (
       search needs,
       search needs,
-      omega (arith, walked-since (taskOf file) (outer .i) (inner .j) (c .before .before .line-of .result) (inner .held) (inner .since) (inner .useful) inside counted (c .before .before .line-of .ensures .1) (inner .inv .1)),
+      omega (arith, walked-since (taskOf file) (outer .i) (inner .j) (c .before .before .line-of .result) (inner .held) (inner .since) (inner .sets) inside counted (c .before .before .line-of .ensures .1) (inner .inv .1)),
       omega arith,
     )
+
+add-add-line : tie.Need-add-add-line Inv-loop2 μ-loop2 Inv-loop μ-loop
+add-add-line c = omega arith
 
 add-line-requires : tie.Need-add-line-requires Inv-loop2 μ-loop2 Inv-loop μ-loop
 add-line-requires c κs = (search needs, search needs, omega arith)
@@ -117,25 +127,29 @@ loop2-less : tie.Need-loop2-less Inv-loop2 μ-loop2 Inv-loop μ-loop
 loop2-less c = omega arith
 
 loop2-again : tie.Need-loop2-again Inv-loop2 μ-loop2 Inv-loop μ-loop
-unfolding lineOf
 loop2-again c =
-    let file = c .before .before .before .before .before .before .before .before .before .before .before .before .before .before .before .before .args .file .now in
+    let start = c .before .before .before .before .before .before .before .before .before .before .before .before .before .before .before in
+    let file = start .args .file .now in
+    let cache = c .before .before .before .before .before .before .before .before .before .before .before .before .before .cache-of in
     let outer = c .before .before .before .before .before .before .before .before .before .before .before .loop in
     let inner = c .before .before .before .before .before .before .before .before .loop2 in
     let number = c .before .before .before .before .before .before .read in
     let line = c .before .before .before .before .before .line-of in
-    let inside : outer .i < blockCount (taskOf file) = omega arith in
+    let reread = c .before .before .add-reread in
+    let inside : outer .i < blockCount (taskOf file) = omega (arith, c .before .before .before .before .before .before .before .before .before .before .loop-test .taken, c .before .before .before .before .before .before .before .before .before .before .before .before .block-count .ensures .0) in
     let reads-are = accepted-file.reads-at file (outer .i) (omega (arith, accepted-file.block-count file)) in
-    let counted : inner .j < length (blockAt (taskOf file) (outer .i) .reads) = rw reads-are (omega arith) in
+    let counted : inner .j < length (blockAt (taskOf file) (outer .i) .reads) = rw reads-are (omega (arith, c .before .before .before .before .before .before .before .loop2-test .taken, c .before .before .before .before .before .before .before .before .before .read-count .ensures .0)) in
     let number-is : getD (blockAt (taskOf file) (outer .i) .reads) (inner .j) 0 ≡ number .result = rw reads-are (sym (number .ensures)) in
-    let line-is : line .result ≡ lineOf (taskOf file) (number .result) =
-    line .ensures .0 ∙ ap (λ (s : ℕ). number .result % s) (c .before .before .before .before .before .before .before .before .before .before .before .before .before .line-count .ensures .0) in (
+    let line-is : line .result ≡ lineOf (taskOf file) (number .result) = line .ensures .0 (taskOf file) (cache .ensures) in (
       omega arith,
-      walked-more (taskOf file) (outer .i) (inner .j) (outer .i + 1) (number .result) (line .result) _ (inner .held) (inner .since) (inner .useful)
-          (c .before .before .add-reread .last .0) inside counted (add-one (outer .i)) number-is (line .ensures .1) line-is (omega arith)
-          (c .before .before .add-reread .ensures .0) (c .before .before .add-reread .ensures .1) (inner .inv .1),
-      gathered-more (taskOf file) (outer .i) (inner .j) (outer .i + 1) (number .result) (line .result) (inner .accessed) (c .add-line .last .0) counted
-          (add-one (outer .i)) number-is line-is (c .add-line .ensures .0) (c .add-line .ensures .1) (inner .inv .2),
+      walked-same (taskOf file) _ _ _ (reread .last .0) (c .add-line .last .0) (c .add-line .ensures .0)
+          (λ k d h. toggled-agree _ (reread .last .0) k d (λ e l. below-added (reread .last .0) (c .add-line .last .0) e d (outer .i + 1) (line .result) (omega arith) (c .add-line .ensures .1 e d)))
+          (walked-more (taskOf file) (outer .i) (inner .j) (outer .i + 1) (number .result) (line .result) _ (inner .held) (inner .since) (inner .sets)
+          (reread .last .0) inside counted (add-one (outer .i)) number-is (line .ensures .1) line-is (omega arith)
+          (reread .ensures .0) (reread .ensures .1 .0) (inner .inv .1)),
+      gathered-more (taskOf file) (outer .i) (inner .j) (65 + (outer .i + 1)) (number .result) (line .result) (reread .last .0) (c .add-line .last .0) counted
+          (ap (λ (n : ℕ). 65 + n) (add-one (outer .i))) number-is line-is (c .add-line .ensures .1)
+          (gathered-same (taskOf file) (outer .i) (inner .j) (inner .sets) (reread .last .0) (reread .ensures .1 .1) (inner .inv .2)),
     )
 
 add-i : tie.Need-add-i Inv-loop2 μ-loop2 Inv-loop μ-loop
@@ -146,7 +160,7 @@ loop-less c = omega arith
 
 loop-again : tie.Need-loop-again Inv-loop2 μ-loop2 Inv-loop μ-loop
 loop-again c =
-    let file = c .before .before .before .before .before .before .before .before .before .args .file .now in
+    let file = c .before .before .before .before .before .before .before .before .args .file .now in
     let outer = c .before .before .before .before .loop in
     let inner = c .before .loop2 in
     let reads-are = accepted-file.reads-at file (outer .i) (omega (arith, accepted-file.block-count file)) in
@@ -155,18 +169,22 @@ loop-again c =
     rw (add-one, edge-suc (taskOf file) (outer .i) (omega arith), whole) refl in (
       omega arith,
       rw there (inner .inv .1),
-      rw add-one (gathered-block (taskOf file) (outer .i) (inner .j) (inner .accessed) (omega arith) (omega arith) (inner .inv .2)),
+      rw add-one (gathered-block (taskOf file) (outer .i) (inner .j) (inner .sets) (omega arith) (omega arith) (inner .inv .2)),
     )
 
 returns : tie.Need-returns Inv-loop2 μ-loop2 Inv-loop μ-loop
 returns c =
-    let file = c .before .before .before .before .before .before .args .file .now in
+    let file = c .before .before .before .before .before .args .file .now in
+    let of = c .before .before .before .cache-of .ensures in
     let l = c .before .loop in
-    let done : l .i ≡ blockCount (taskOf file) = omega arith in (
-      walked-all (taskOf file) (edge (taskOf file) (l .i)) (l .held) (l .since) (l .useful) (ap (edge (taskOf file)) done ∙ edge-end (taskOf file))
-          (omega arith) (omega arith) (omega arith) (l .inv .1),
-      record { long = l .inv .2 .long; lines = λ k d h. l .inv .2 .passed k d (omega arith) },
-    )
+    let done : l .i ≡ blockCount (taskOf file) = omega arith in
+    record {
+      long = l .inv .1 .long;
+      useful =
+          walked-all (taskOf file) (edge (taskOf file) (l .i)) (l .held) (l .since) (l .sets) (ap (edge (taskOf file)) done ∙ edge-end (taskOf file))
+          (omega arith) (omega (arith, of .sound .some, of .count)) (omega (arith, of .sound .most, of .count)) (l .inv .1);
+      accessed = λ k d h. l .inv .2 .passed k d (omega arith);
+    }
 
 pub walk-reads-spec : {M : Type 1} → statement M
 walk-reads-spec =
@@ -176,9 +194,8 @@ walk-reads-spec =
     μ-loop2
     Inv-loop
     μ-loop
+    cache-of-requires
     block-count-requires
-    line-count-requires
-    inverse-of-requires
     loop-holds
     add-k
     read-count-requires
@@ -190,6 +207,7 @@ walk-reads-spec =
     mul-add-reread
     array-read-add-reread
     add-reread-requires
+    add-add-line
     add-line-requires
     mul-held
     array-set-from-held

@@ -1,46 +1,66 @@
--- `LineSet::with` meets its contract. A line below 512 is the digit that is set; any other line changes nothing.
+-- `LineSet::with` meets its contract. The loop's invariant: the words below w are joined with the line's digit, and the others are those of self.
 -- Assumes nothing.
-use mathlib.Core.Bool.{or-false}
-use mathlib.Core.Path.{_≡_, sym}
+use Prim.Native.Nat.{_-_}
+use native.Mathlib.Omega.{arith}
 use borrow.Author.Needs.{needs}
-use borrow.Author.Tests.{lt-ltb, le-ltb}
-use lib.Bits.{mask-lt}
-use lib.ListN.{length}
-use Rattle.lineset.proofs.Laws.{in-added}
+use lib.Bits.{bitOr, mask-lt}
+use Rattle.lineset.proofs.Laws.{Joined, joined-none, joined-more, mask, in-with}
 use Rattle.lineset.proofs.LineSet.with.Statement.{statement}
 use Rattle.lineset.proofs.LineSet.with.Tie as tie
 
-mul-self : tie.Need-mul-self
-mul-self c = search needs
+abbrev Inv-loop : tie.InvT-loop
+Inv-loop line self₀ word w₀ self w = Joined bitOr (self₀ .words) (mask line) w (self .words)
 
-element-copy-out-self : tie.Need-element-copy-out-self
-element-copy-out-self c = search needs
+abbrev μ-loop : tie.MeasureT-loop
+μ-loop line self₀ word w₀ self w = 8 - w
 
-shl-self : tie.Need-shl-self
-shl-self c = mask-lt (c .before .before .args .line) 6
+loop-holds : tie.Need-loop-holds Inv-loop μ-loop
+loop-holds c = joined-none bitOr _ _ (search needs)
 
-mul-self-2 : tie.Need-mul-self-2
-mul-self-2 c = search needs
+mul-self : tie.Need-mul-self Inv-loop μ-loop
+mul-self c = omega arith
 
-element-write-self : tie.Need-element-write-self
-element-write-self c = search needs
+element-copy-out-self : tie.Need-element-copy-out-self Inv-loop μ-loop
+element-copy-out-self c = omega arith
 
-returns : tie.Need-returns
-returns c =
-    let e : length (c .before .before .args .t1 .words) ≡ 8 = search needs in
-    λ d. rw (lt-ltb _ _ (c .before .if1 .taken)) (in-added _ (c .before .before .args .line) d e (c .before .if1 .taken))
+cast-self : tie.Need-cast-self Inv-loop μ-loop
+cast-self c = search needs
 
-returns-2 : tie.Need-returns-2
-returns-2 c = λ d. rw (le-ltb _ _ (c .if1 .left)) (sym (or-false _))
+shl-self : tie.Need-shl-self Inv-loop μ-loop
+shl-self c = mask-lt (c .before .before .before .args .line) 6
+
+mul-self-2 : tie.Need-mul-self-2 Inv-loop μ-loop
+mul-self-2 c = omega arith
+
+element-write-self : tie.Need-element-write-self Inv-loop μ-loop
+element-write-self c = omega arith
+
+add-w : tie.Need-add-w Inv-loop μ-loop
+add-w c = omega arith
+
+loop-less : tie.Need-loop-less Inv-loop μ-loop
+loop-less c = omega arith
+
+loop-again : tie.Need-loop-again Inv-loop μ-loop
+loop-again c = joined-more bitOr _ _ _ _ (omega arith) (c .before .before .loop .inv)
+
+returns : tie.Need-returns Inv-loop μ-loop
+returns c = in-with _ _ _ _ (search needs) (c .loop-test .left) (c .before .loop .inv)
 
 pub with-spec : {M : Type 1} → statement M
 with-spec =
     tie.close
     (tie.spec
+    Inv-loop
+    μ-loop
+    loop-holds
     mul-self
     element-copy-out-self
+    cast-self
     shl-self
     mul-self-2
     element-write-self
-    returns
-    returns-2)
+    add-w
+    loop-less
+    loop-again
+    returns)

@@ -1,10 +1,14 @@
-// What the answers of a call come to: a refusal's number and place, the first of two verdicts, and what a C call returns.
+// What the answers of a call come to: a refusal's number and place, the first of two verdicts and whose it is, and what a C call returns.
 ghost use mathlib.Core.Path.{_≡_};
-ghost use Prim.Native.Nat.{_+_, _*_, _≤_};
-ghost use Rattle.model.specs.Answers.{number, place, returned, onAccepted, andThen};
+ghost use Prim.Native.Nat.{_≤_};
+ghost use Rattle.model.specs.Answers.{number, place, placeOf, verdictPlace, andThen, mostBlocks};
 ghost use Rattle.model.specs.Answers as Answers;
+use model::Input;
 use model::Refusal;
 use model::Verdict;
+
+// The blocks of the largest file.
+const MOST_BLOCKS: usize = 97;
 
 // A refusal's number in the table of document 01.
 pub fn refusal_number(refusal: Refusal) -> u32
@@ -40,16 +44,6 @@ pub fn refusal_place(refusal: Refusal) -> usize
     }
 }
 
-// Whether a verdict accepts.
-pub fn accepted(verdict: Verdict) -> bool
-    ensures { λ r. ⌜ r ≡ Answers.accepted verdict ⌝ }
-{
-    match verdict {
-        Verdict::Accepted => true,
-        Verdict::Refused(_) => false,
-    }
-}
-
 // The first refusal of two verdicts, in this order.
 pub fn earlier(first: Verdict, second: Verdict) -> Verdict
     ensures { λ r. ⌜ r ≡ andThen first second ⌝ }
@@ -60,21 +54,38 @@ pub fn earlier(first: Verdict, second: Verdict) -> Verdict
     }
 }
 
-// What a C call returns: 0, or the refusal with the shift added to its place.
-pub fn answer(verdict: Verdict, shift: u32) -> u32
-    requires { ⌜ ((x : Refusal) → verdict ≡ Verdict.Refused x → place x ≤ 97) × (shift ≤ 97) ⌝ }
-    ensures { λ r. ⌜ r ≡ onAccepted verdict 0 (returned verdict + shift) ⌝ }
+// Whose refusal that is.
+pub fn whose(first: Verdict, second: Verdict) -> Input
+    ensures { λ r. ⌜ r ≡ Answers.whose first second ⌝ }
 {
-    match verdict {
-        Verdict::Accepted => 0,
-        Verdict::Refused(refusal) => refused(refusal, shift),
+    match first {
+        Verdict::Accepted => match second {
+            Verdict::Accepted => Input::First,
+            Verdict::Refused(_) => Input::Second,
+        },
+        Verdict::Refused(_) => Input::First,
     }
 }
 
-// What a refusal returns, the shift added to its place.
-pub fn refused(refusal: Refusal, shift: u32) -> u32
-    requires { ⌜ (place refusal ≤ 97) × (shift ≤ 97) ⌝ }
-    ensures { λ r. ⌜ r ≡ number refusal * 65536 + place refusal + shift ⌝ }
+// The place of an input's refusal.
+pub fn place_of(input: Input, refusal: Refusal) -> usize
+    requires { ⌜ place refusal ≤ mostBlocks ⌝ }
+    ensures { λ r. ⌜ r ≡ placeOf input refusal ⌝ }
 {
-    refusal_number(refusal) * 65536 + refusal_place(refusal) as u32 + shift
+    match input {
+        Input::First => refusal_place(refusal),
+        Input::Second => refusal_place(refusal) + MOST_BLOCKS,
+    }
+}
+
+// What a C call returns.
+pub fn returned(input: Input, verdict: Verdict) -> u32
+    requires { ⌜ verdictPlace verdict ≤ mostBlocks ⌝ }
+    ensures { λ r. ⌜ r ≡ Answers.returned input verdict ⌝ }
+{
+    match verdict {
+        Verdict::Accepted => 0,
+        Verdict::Refused(refusal) => refusal_number(refusal) * 65536
+            + place_of(input, refusal) as u32,
+    }
 }

@@ -1,6 +1,6 @@
 -- What the two C calls return, and what they leave in the lent block (document 01, "Stretches and price" and "Numbers given to the build"):
 -- 0, or the refusal's number times 65536 plus its place; 9 first; a refusal leaves the block as it was. Assumes nothing.
-use Prim.Native.Nat.{ℕ, _+_}
+use Prim.Native.Nat.{ℕ}
 use mathlib.Core.Path.{_≡_}
 use mathlib.Core.Bool.{cond}
 use mathlib.Core.Logic.{_⊎_}
@@ -11,12 +11,13 @@ use Rattle.model.specs.Task.{Task}
 use Rattle.model.specs.Regions.{BestList, NoPlacementFits}
 use Rattle.model.specs.Answers.{returned, onAccepted}
 use Rattle.model.specs.Planning.{chosen, planFor}
+use Rattle.model.specs.declared.Input.the-variants.{First}
 use Rattle.model.specs.declared.Refusal.{Refusal}
 use Rattle.model.specs.declared.Refusal.the-variants.{NoPlacement, Output}
 use Rattle.model.specs.declared.Verdict.the-variants.{Accepted, Refused}
 use Rattle.taskfile.specs.File.{verdict, taskOf}
 use Rattle.planblock.specs.Plans.{planBytes, planOf}
-use Rattle.planner.specs.Calls.{blockVerdict, blockRefused}
+use Rattle.planner.specs.Calls.{blockVerdict, blockInput}
 
 -- a list of points that fits and costs least, and its plan stored in the block
 pub record StoredBest (t : Task) (left : List ℕ) : Type 0 where
@@ -26,15 +27,15 @@ pub record StoredBest (t : Task) (left : List ℕ) : Type 0 where
 
 -- planning: what it returns and leaves, of a file and the block's bytes
 pub record PlanCall (file block : List ℕ) (r : ℕ) (left : List ℕ) : Type 0 where
-  pub output : (length block ≡ 512 → ⊥) → (r ≡ returned (Refused Output)) × (left ≡ block)
-  pub refused : length block ≡ 512 → (x : Refusal) → verdict file ≡ Refused x → (r ≡ returned (Refused x)) × (left ≡ block)
+  pub output : (length block ≡ 512 → ⊥) → (r ≡ returned First (Refused Output)) × (left ≡ block)
+  pub refused : length block ≡ 512 → (x : Refusal) → verdict file ≡ Refused x → (r ≡ returned First (Refused x)) × (left ≡ block)
   pub planned : length block ≡ 512 → verdict file ≡ Accepted
-      → (NoPlacementFits (taskOf file) × (r ≡ returned (Refused NoPlacement)) × (left ≡ block)) ⊎ (StoredBest (taskOf file) left × (r ≡ 0))
+      → (NoPlacementFits (taskOf file) × (r ≡ returned First (Refused NoPlacement)) × (left ≡ block)) ⊎ (StoredBest (taskOf file) left × (r ≡ 0))
 
--- pricing the points of a first block: 97 are added to the places of the block's own refusals
+-- pricing the points of a first block, whose own refusals are a second input's
 unfoldable pub priceReturned : List ℕ → List ℕ → List ℕ → ℕ
 priceReturned file points block =
-    cond (eqb (length block) 512) (returned (blockVerdict file points) + cond (blockRefused file points) 97 0) (returned (Refused Output))
+    cond (eqb (length block) 512) (returned (blockInput file points) (blockVerdict file points)) (returned First (Refused Output))
 
 -- and what it leaves: the plan of those points, with the file's N and id
 unfoldable pub priceLeft : List ℕ → List ℕ → List ℕ → List ℕ

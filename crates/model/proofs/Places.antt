@@ -9,18 +9,15 @@ use lib.ListN.{length}
 use Rattle.model.specs.Task.{Task, blockCount}
 use Rattle.model.specs.Lists.{Region, steps, regions, lowest, rightPoint}
 use Rattle.model.specs.Regions.{regionFits}
-use Rattle.model.specs.Answers.{number, place, andThen, refusedAt, pricing}
+use Rattle.model.specs.Answers.{number, place, placeOf, verdictPlace, mostBlocks, andThen, refusedAt, pricing}
+use Rattle.model.specs.declared.Input.{Input}
+use Rattle.model.specs.declared.Input.the-variants.{First, Second}
 use Rattle.model.specs.declared.Place.{Place}
 use Rattle.model.specs.declared.Place.the-variants.{Nowhere, At}
 use Rattle.model.specs.declared.Refusal.{Refusal}
 use Rattle.model.specs.declared.Refusal.the-variants.{Length, Checksum, WrongHeader, BlockCount, WrongBlock, NoPlacement, Argument, AboveLimit, Output}
 use Rattle.model.specs.declared.Verdict.{Verdict}
 use Rattle.model.specs.declared.Verdict.the-variants.{Accepted, Refused}
-
--- the place of a refusal, and 0 where there is none
-unfoldable pub placeIn : Verdict → ℕ
-placeIn Accepted = 0
-placeIn (Refused r) = place r
 
 pub number-most : (r : Refusal) → number r ≤ 9
 number-most Length = omega arith
@@ -33,13 +30,17 @@ number-most (Argument i) = omega arith
 number-most (AboveLimit i) = omega arith
 number-most Output = omega arith
 
-pub then-most : (v w : Verdict) (n : ℕ) → placeIn v ≤ n → (v ≡ Accepted → placeIn w ≤ n) → placeIn (andThen v w) ≤ n
+-- an input's place is at most 97 more than the refusal's own
+pub of-most : (i : Input) (r : Refusal) → placeOf i r ≤ place r + mostBlocks
+of-most First r = omega arith
+of-most Second r = omega arith
+
+pub then-most : (v w : Verdict) (n : ℕ) → verdictPlace v ≤ n → (v ≡ Accepted → verdictPlace w ≤ n) → verdictPlace (andThen v w) ≤ n
 then-most Accepted w n g h = h refl
 then-most (Refused r) w n g h = g
 
-pub at-most : (p : Place) (r : ℕ → Refusal) (v : Verdict) (n : ℕ) → ((k : ℕ) → p ≡ At k → place (r k) ≤ n) → placeIn v ≤ n
-    → placeIn (refusedAt p r v) ≤ n
-unfolding placeIn
+pub at-most : (p : Place) (r : ℕ → Refusal) (v : Verdict) (n : ℕ) → ((k : ℕ) → p ≡ At k → place (r k) ≤ n) → verdictPlace v ≤ n
+    → verdictPlace (refusedAt p r v) ≤ n
 at-most Nowhere r v n g h = h
 at-most (At k) r v n g h = g k refl
 
@@ -65,8 +66,7 @@ length-regions n a [] = refl
 length-regions n a (p ∷ ps) = omega (arith, length-regions n p ps)
 
 -- pricing names a point or a region of the list
-pub pricing-most : (t : Task) (ps : List ℕ) → placeIn (pricing t ps) ≤ length ps
-unfolding placeIn
+pub pricing-most : (t : Task) (ps : List ℕ) → verdictPlace (pricing t ps) ≤ length ps
 pricing-most t ps =
     let n : ℕ = blockCount t in
     at-most (lowest (rightPoint n) 0 (steps 0 ps)) Argument _ (length ps)

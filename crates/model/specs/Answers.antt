@@ -5,6 +5,8 @@ use mathlib.Core.List.{List}
 use Rattle.model.specs.Task.{Task, blockCount}
 use Rattle.model.specs.Lists.{wrongPoint}
 use Rattle.model.specs.Regions.{regionAbove}
+use Rattle.model.specs.declared.Input.{Input}
+use Rattle.model.specs.declared.Input.the-variants.{First, Second}
 use Rattle.model.specs.declared.Place.{Place}
 use Rattle.model.specs.declared.Place.the-variants.{Nowhere, At}
 use Rattle.model.specs.declared.Refusal.{Refusal}
@@ -36,10 +38,24 @@ place (Argument i) = i
 place (AboveLimit i) = i
 place Output = 0
 
+-- the blocks of the largest file
+abbrev pub mostBlocks : ℕ
+mostBlocks = 97
+
+-- the place of an input's refusal: a second input's places come after those of the first
+abbrev pub placeOf : Input → Refusal → ℕ
+placeOf First r = place r
+placeOf Second r = place r + mostBlocks
+
 -- what a C call returns: 0, or the refusal's number times 65536 plus its place
-abbrev pub returned : Verdict → ℕ
-returned Accepted = 0
-returned (Refused r) = number r * 65536 + place r
+abbrev pub returned : Input → Verdict → ℕ
+returned i Accepted = 0
+returned i (Refused r) = number r * 65536 + placeOf i r
+
+-- the place of a verdict's refusal, and 0 where it accepts
+abbrev pub verdictPlace : Verdict → ℕ
+verdictPlace Accepted = 0
+verdictPlace (Refused r) = place r
 
 abbrev pub accepted : Verdict → Bool
 accepted Accepted = true
@@ -59,6 +75,12 @@ refusedAt (At i) r later = Refused (r i)
 abbrev pub andThen : Verdict → Verdict → Verdict
 andThen Accepted later = later
 andThen (Refused r) later = Refused r
+
+-- whose refusal that is, of two inputs' verdicts: the second's where the first is accepted and the second is not
+abbrev pub whose : Verdict → Verdict → Input
+whose Accepted Accepted = First
+whose Accepted (Refused r) = Second
+whose (Refused r) later = First
 
 -- pricing a list: 7 at the lowest wrong point, then 8 at the lowest region above the limit
 abbrev pub pricing : Task → List ℕ → Verdict

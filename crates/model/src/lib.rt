@@ -31,6 +31,12 @@ pub enum Verdict {
     Refused(Refusal),
 }
 
+// Which of a call's two inputs a refusal is of.
+pub enum Input {
+    First,
+    Second,
+}
+
 // A plan, each field as wide as in a plan block; the points beyond the count are zero.
 pub struct Plan {
     pub blocks: u16,

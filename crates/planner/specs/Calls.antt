@@ -2,15 +2,16 @@
 -- 5 of the file first, then 7, then 6 or 8. Assumes nothing.
 use Prim.Native.Nat.{ℕ}
 use mathlib.Core.Path.{_≡_}
-use mathlib.Core.Bool.{Bool, false, cond, not, _&&_}
+use mathlib.Core.Bool.{false, cond, _&&_}
 use mathlib.Core.List.{List}
 use lib.Dec.{leb, ltb}
 use Rattle.model.specs.Sets.{words}
 use Rattle.model.specs.Task.{blockCount}
 use Rattle.model.specs.Lines.{useful}
 use Rattle.model.specs.Regions.{loaded, regionLength, lines, cost}
-use Rattle.model.specs.Answers.{accepted, onAccepted, andThen, pricing}
+use Rattle.model.specs.Answers.{onAccepted, andThen, whose, pricing}
 use Rattle.model.specs.Planning.{chosen, planFor, noPlan, Planned}
+use Rattle.model.specs.declared.Input.{Input}
 use Rattle.model.specs.declared.Refusal.{Refusal}
 use Rattle.model.specs.declared.Refusal.the-variants.{Argument}
 use Rattle.model.specs.declared.Verdict.{Verdict}
@@ -55,9 +56,9 @@ priceCost file ps = onAccepted (priceVerdict file ps) (cost (taskOf file) ps) 0
 unfoldable pub blockVerdict : List ℕ → List ℕ → Verdict
 blockVerdict file block = andThen (verdict file) (andThen (readVerdict block) (pricing (taskOf file) (chosen (planOf block))))
 
--- the refusal is the plan block's own
-unfoldable pub blockRefused : List ℕ → List ℕ → Bool
-blockRefused file block = accepted (verdict file) && not (accepted (readVerdict block))
+-- whose refusal that is: the plan block is the second input, and its points are priced as the file's
+abbrev pub blockInput : List ℕ → List ℕ → Input
+blockInput file block = whose (verdict file) (readVerdict block)
 
 -- the plan of its points, with the file's N and id
 unfoldable pub blockPlan : List ℕ → List ℕ → Plan

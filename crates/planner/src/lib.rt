@@ -4,8 +4,9 @@ ghost use Rattle.model.specs.Answers.{onAccepted};
 ghost use Rattle.model.specs.Planning.{noPlan};
 ghost use Rattle.taskfile.specs.File.{verdict};
 ghost use Rattle.planblock.specs.Plans.{storeVerdict, stored, readVerdict, planOf};
-ghost use Rattle.planner.specs.Calls.{noWords, usefulVerdict, usefulWords, regionVerdict, loadedWords, lengthOf, priceVerdict, priceLines, priceCost, blockVerdict, blockRefused, blockPlan, PlanAnswer};
+ghost use Rattle.planner.specs.Calls.{noWords, usefulVerdict, usefulWords, regionVerdict, loadedWords, lengthOf, priceVerdict, priceLines, priceCost, blockVerdict, blockInput, blockPlan, PlanAnswer};
 use lineset::LineSet;
+use model::Input;
 use model::Plan;
 use model::Refusal;
 use model::Verdict;
@@ -26,10 +27,10 @@ pub struct RegionLines {
     pub length: u64,
 }
 
-// The plan of the points of a plan block; `unread` says that the refusal is the block's own.
+// The plan of the points of a plan block, and whose refusal it is: the file is the first input, the block the second.
 pub struct BlockPrice {
     pub verdict: Verdict,
-    pub unread: bool,
+    pub input: Input,
     pub plan: Plan,
 }
 
@@ -107,34 +108,34 @@ pub fn price(file: &[u8], points: &[u16]) -> Price
 
 // The plan of the points of a plan block, with the file's N and id.
 pub fn price_block(file: &[u8], block: &[u8]) -> BlockPrice
-    ensures { λ r. ⌜ (r .verdict ≡ blockVerdict (now (file .entry)) (now (block .entry))) × (r .unread ≡ blockRefused (now (file .entry)) (now (block .entry))) × (r .plan ≡ blockPlan (now (file .entry)) (now (block .entry))) ⌝ }
+    ensures { λ r. ⌜ (r .verdict ≡ blockVerdict (now (file .entry)) (now (block .entry))) × (r .input ≡ blockInput (now (file .entry)) (now (block .entry))) × (r .plan ≡ blockPlan (now (file .entry)) (now (block .entry))) ⌝ }
 {
     let checked = taskfile::check(file);
     let read = planblock::read(block);
     let readable = read.verdict;
     let before = answers::earlier(checked, readable);
     let Verdict::Accepted = before else {
-        return no_block_price(before, answers::accepted(checked));
+        return no_block_price(before, answers::whose(checked, readable));
     };
     let priced = plans::price_points(file, read.plan);
     let verdict = priced.verdict;
     let plan = priced.plan;
     BlockPrice {
         verdict,
-        unread: false,
+        input: Input::First,
         plan,
     }
 }
 
 // What is answered of a block that is not priced.
-fn no_block_price(verdict: Verdict, unread: bool) -> BlockPrice
-    ensures { λ r. ⌜ (r .verdict ≡ verdict) × (r .unread ≡ unread) × (r .plan ≡ noPlan) ⌝ }
+fn no_block_price(verdict: Verdict, input: Input) -> BlockPrice
+    ensures { λ r. ⌜ (r .verdict ≡ verdict) × (r .input ≡ input) × (r .plan ≡ noPlan) ⌝ }
 {
     let none = plans::no_plan(verdict);
     let plan = none.plan;
     BlockPrice {
         verdict,
-        unread,
+        input,
         plan,
     }
 }

@@ -6,6 +6,7 @@ use mathlib.Core.List.{List, [], _∷_, _++_}
 use lib.Dec.{eqb}
 use lib.ListN.{length}
 use Rattle.model.specs.Answers.{returned, onAccepted}
+use Rattle.model.specs.declared.Input.the-variants.{First}
 use Rattle.model.specs.declared.Refusal.the-variants.{Output}
 use Rattle.model.specs.declared.Verdict.the-variants.{Refused}
 use Rattle.block.specs.Bytes.{les}
@@ -13,14 +14,14 @@ use Rattle.planner.specs.Calls.{usefulVerdict, usefulWords, regionVerdict, load
 
 -- the useful lines at edge k, in 64 bytes: the eight words of the set
 unfoldable pub usefulReturned : List ℕ → ℕ → List ℕ → ℕ
-usefulReturned file k out = cond (eqb (length out) 64) (returned (usefulVerdict file k)) (returned (Refused Output))
+usefulReturned file k out = cond (eqb (length out) 64) (returned First (usefulVerdict file k)) (returned First (Refused Output))
 
 unfoldable pub usefulLeft : List ℕ → ℕ → List ℕ → List ℕ
 usefulLeft file k out = cond (eqb (length out) 64) (onAccepted (usefulVerdict file k) (les 8 (usefulWords file k)) out) out
 
 -- the loaded lines of a region and its length, in 72 bytes
 unfoldable pub regionReturned : List ℕ → ℕ → ℕ → List ℕ → ℕ
-regionReturned file a b out = cond (eqb (length out) 72) (returned (regionVerdict file a b)) (returned (Refused Output))
+regionReturned file a b out = cond (eqb (length out) 72) (returned First (regionVerdict file a b)) (returned First (Refused Output))
 
 unfoldable pub regionLeft : List ℕ → ℕ → ℕ → List ℕ → List ℕ
 regionLeft file a b out =

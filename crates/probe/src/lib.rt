@@ -8,6 +8,7 @@ ghost use Rattle.model.specs.Answers.{onAccepted};
 ghost use Rattle.block.specs.Bytes.{les};
 ghost use Rattle.probe.specs.Calls.{usefulReturned, usefulLeft, regionReturned, regionLeft};
 use lineset::LineSet;
+use model::Input;
 use model::Refusal;
 use model::Verdict;
 use planner::RegionLines;
@@ -20,12 +21,12 @@ pub extern "C" fn probe_useful(file: &[u8], k: usize, out: &mut [u8]) -> u32
     ensures { λ _. ⌜ now (out .exit) ≡ usefulLeft (now (file .entry)) k (now (out .entry)) ⌝ }
 {
     if out.len() != 64 {
-        return answers::refused(Refusal::Output, 0);
+        return answers::returned(Input::First, Verdict::Refused(Refusal::Output));
     }
     let found = planner::useful(file, k);
     let verdict = found.verdict;
     keep_useful(found, out);
-    answers::answer(verdict, 0)
+    answers::returned(Input::First, verdict)
 }
 
 // The loaded lines of a region and its length, in 72 bytes.
@@ -35,12 +36,12 @@ pub extern "C" fn probe_region(file: &[u8], a: usize, b: usize, out: &mut [u8]) 
     ensures { λ _. ⌜ now (out .exit) ≡ regionLeft (now (file .entry)) a b (now (out .entry)) ⌝ }
 {
     if out.len() != 72 {
-        return answers::refused(Refusal::Output, 0);
+        return answers::returned(Input::First, Verdict::Refused(Refusal::Output));
     }
     let found = planner::region(file, a, b);
     let verdict = found.verdict;
     keep_region(found, out);
-    answers::answer(verdict, 0)
+    answers::returned(Input::First, verdict)
 }
 
 // Leaves accepted lines in the bytes.

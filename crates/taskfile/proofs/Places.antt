@@ -8,13 +8,13 @@ use native.Mathlib.Omega.{arith}
 use lib.Dec.{eqb, leb, ltb}
 use lib.ListN.{length}
 use borrow.Author.Tests.{leb-true, eqb-true}
-use Rattle.model.specs.Answers.{refusedAt}
+use Rattle.model.specs.Answers.{verdictPlace, refusedAt}
 use Rattle.model.specs.declared.Place.{Place}
 use Rattle.model.specs.declared.Place.the-variants.{At}
 use Rattle.model.specs.declared.Refusal.the-variants.{Length, Checksum, WrongHeader, BlockCount, WrongBlock}
 use Rattle.model.specs.declared.Verdict.the-variants.{Accepted, Refused}
 use Rattle.model.proofs.Lists.{and-split}
-use Rattle.model.proofs.Places.{placeIn, at-most}
+use Rattle.model.proofs.Places.{at-most}
 use Rattle.block.specs.Blocks.{checksumRight, lowestFrom}
 use Rattle.block.proofs.Blocks.{lowest-within}
 use Rattle.taskfile.specs.File.{headerRight, blockIn, blocksIn, blockRight, lengthRight, verdict, header}
@@ -23,8 +23,8 @@ blocks-most : (file : List ℕ) → lengthRight (length file) ≡ true → block
 unfolding lengthRight blocksIn
 blocks-most file e = omega (arith, leb-true (length file) 49664 (and-split (ltb 0 (length file) && eqb (length file % 512) 0) (leb (length file) 49664) e .1))
 
-pub verdict-most : (file : List ℕ) → placeIn (verdict file) ≤ 97
-unfolding verdict placeIn
+pub verdict-most : (file : List ℕ) → verdictPlace (verdict file) ≤ 97
+unfolding verdict
 verdict-most file =
     let total : ℕ = blocksIn file in
     let n : ℕ = header file .blocks in
@@ -37,7 +37,7 @@ verdict-most file =
   where
     go : (size : Bool) (sum : Place) (head count : Bool) (body : Place) → (size ≡ true → (k : ℕ) → sum ≡ At k → k ≤ 97)
         → (size ≡ true → count ≡ true → (k : ℕ) → body ≡ At k → k ≤ 97)
-        → placeIn (cond size (refusedAt sum Checksum (cond head (cond count (refusedAt body WrongBlock Accepted) (Refused BlockCount)) (Refused WrongHeader))) (Refused Length))
+        → verdictPlace (cond size (refusedAt sum Checksum (cond head (cond count (refusedAt body WrongBlock Accepted) (Refused BlockCount)) (Refused WrongHeader))) (Refused Length))
         ≤ 97
     go false sum head count body g h = omega arith
     go true sum false count body g h = at-most sum Checksum _ 97 (g refl) (omega arith)

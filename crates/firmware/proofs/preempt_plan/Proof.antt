@@ -2,16 +2,16 @@
 -- Assumes nothing.
 use mathlib.Core.Path.{refl}
 use native.Mathlib.Omega.{arith}
-use Rattle.firmware.proofs.Answers.{place-of, plan-most, plan-stores, plan-call}
+use Rattle.firmware.proofs.Calls.{plan-most, plan-stores, plan-call}
 use borrow.Author.Needs.{needs}
 use Rattle.firmware.proofs.preempt_plan.Statement.{statement}
 use Rattle.firmware.proofs.preempt_plan.Tie as tie
 
-refused-requires : tie.Need-refused-requires
-refused-requires c κs = search needs
+returned-requires : tie.Need-returned-requires
+returned-requires c κs = search needs
 
 returns : tie.Need-returns
-returns c = record { output = λ no. (c .refused .ensures, refl); refused = λ l x e. absurd (omega arith); planned = λ l e. absurd (omega arith) }
+returns c = record { output = λ no. (c .returned .ensures, refl); refused = λ l x e. absurd (omega arith); planned = λ l e. absurd (omega arith) }
 
 plan-requires : tie.Need-plan-requires
 plan-requires c κs = search needs
@@ -21,8 +21,9 @@ leave-requires c κs =
     let file = c .before .before .before .before .before .before .args .file .now in
     let answer = c .before .before .plan in
     let known = answer .ensures in (
-      (search needs, omega arith, plan-stores file (answer .result .verdict) (answer .result .plan) known),
-      λ x e. place-of (answer .result .verdict) x (plan-most file (answer .result .verdict) (answer .result .plan) known) e,
+      search needs,
+      plan-stores file (answer .result .verdict) (answer .result .plan) known,
+      plan-most file (answer .result .verdict) (answer .result .plan) known,
     )
 
 same-length : tie.Need-same-length
@@ -38,4 +39,4 @@ returns-2 c =
 pub preempt-plan-spec : {M : Type 1} → statement M
 preempt-plan-spec =
     tie.close
-    (tie.spec refused-requires returns plan-requires leave-requires same-length returns-2)
+    (tie.spec returned-requires returns plan-requires leave-requires same-length returns-2)

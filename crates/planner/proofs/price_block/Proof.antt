@@ -1,8 +1,7 @@
 -- `planner::price_block` meets its contract: the first refusal of the file and the block, or the price of the block's points.
 -- Assumes nothing.
 use mathlib.Core.Path.{_≡_, refl, sym, _∙_}
-use mathlib.Core.Bool.{not, _&&_}
-use Rattle.model.specs.Answers.{accepted, andThen, pricing}
+use Rattle.model.specs.Answers.{andThen, pricing}
 use Rattle.model.specs.Planning.{chosen}
 use Rattle.model.specs.declared.Refusal.{Refusal}
 use Rattle.model.specs.declared.Verdict.{Verdict}
@@ -12,17 +11,16 @@ use Rattle.taskfile.specs.File.{verdict, taskOf}
 use Rattle.planvalue.proofs.Verdicts.{count-accepted}
 use Rattle.planblock.specs.Plans.{readVerdict, planOf}
 use Rattle.planblock.proofs.Roundtrip.{store-back, zeros-after}
-use Rattle.planner.specs.Calls.{blockVerdict, blockRefused, blockPlan}
+use Rattle.planner.specs.Calls.{blockVerdict, blockPlan}
 use borrow.Author.Needs.{needs}
 use Rattle.planner.proofs.price_block.Statement.{statement}
 use Rattle.planner.proofs.price_block.Tie as tie
 
 -- a refusal of two verdicts before a third
-before-refused : (u v w : Verdict) (x : Refusal) → andThen u v ≡ Refused x
-    → (andThen u (andThen v w) ≡ Refused x) × ((accepted u && not (accepted v)) ≡ accepted u)
+before-refused : (u v w : Verdict) (x : Refusal) → andThen u v ≡ Refused x → andThen u (andThen v w) ≡ Refused x
 before-refused Accepted Accepted w x e = absurd (never-both e)
-before-refused Accepted (Refused y) w x e = (e, refl)
-before-refused (Refused y) v w x e = (e, refl)
+before-refused Accepted (Refused y) w x e = e
+before-refused (Refused y) v w x e = e
 
 check-requires : tie.Need-check-requires
 check-requires c κs = search needs
@@ -39,14 +37,14 @@ enum-told c = search needs
 enum-told-2 : tie.Need-enum-told-2
 enum-told-2 c = search needs
 
-accepted-requires : tie.Need-accepted-requires
-accepted-requires c κs = search needs
+whose-requires : tie.Need-whose-requires
+whose-requires c κs = search needs
 
 no-block-price-requires : tie.Need-no-block-price-requires
 no-block-price-requires c κs = search needs
 
 returns : tie.Need-returns
-unfolding blockVerdict blockRefused blockPlan
+unfolding blockVerdict blockPlan
 returns c =
     let start = c .before .before .before .before .before .before .before .before .before in
     let file = start .args .file .now in
@@ -56,9 +54,9 @@ returns c =
     let earlier = rw (check, read .0) at (sym (c .before .before .before .before .earlier .ensures) ∙ c .before .before .enum-told2 .given .1) in
     let later = before-refused (verdict file) (readVerdict block) (pricing (taskOf file) (chosen (planOf block))) _ earlier in
     let answers = c .no-block-price .ensures in (
-      answers .0 ∙ c .before .before .enum-told2 .given .1 ∙ sym (later .0),
-      answers .1 ∙ c .before .accepted .ensures ∙ rw check (sym (later .1)),
-      rw (later .0) (answers .2),
+      answers .0 ∙ c .before .before .enum-told2 .given .1 ∙ sym later,
+      answers .1 ∙ rw (check, read .0) at (c .before .whose .ensures),
+      rw later (answers .2),
     )
 
 price-points-requires : tie.Need-price-points-requires
@@ -73,7 +71,7 @@ price-points-requires c κs =
     rw (read .1, both .1) (both .0, (count-accepted (planOf block) (store-back block (both .1) .0), zeros-after block))
 
 returns-2 : tie.Need-returns-2
-unfolding blockVerdict blockRefused blockPlan
+unfolding blockVerdict blockPlan
 returns-2 c =
     let priced = c .before in
     let start = priced .before .before .before .before .before .before .before .before in
@@ -95,7 +93,7 @@ price-block-spec =
     earlier-requires
     enum-told
     enum-told-2
-    accepted-requires
+    whose-requires
     no-block-price-requires
     returns
     price-points-requires

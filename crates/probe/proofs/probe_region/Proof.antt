@@ -1,21 +1,21 @@
 -- `probe::probe_region` meets its contract: 9 for the bytes' length, and else what the planner answered.
 -- Assumes nothing.
-use mathlib.Core.Path.{refl, _∙_}
+use mathlib.Core.Path.{refl}
 use native.Mathlib.Omega.{arith}
 use lib.ListN.{length}
 use borrow.Author.Tests.{eq-eqb, ne-eqb}
 use Rattle.probe.specs.Calls.{regionReturned, regionLeft}
-use Rattle.probe.proofs.Answers.{unshifted, region-place}
+use Rattle.probe.proofs.Calls.{region-most}
 use borrow.Author.Needs.{needs}
 use Rattle.probe.proofs.probe_region.Statement.{statement}
 use Rattle.probe.proofs.probe_region.Tie as tie
 
-refused-requires : tie.Need-refused-requires
-refused-requires c κs = search needs
+returned-requires : tie.Need-returned-requires
+returned-requires c κs = search needs
 
 returns : tie.Need-returns
 unfolding regionReturned regionLeft
-returns c = rw (ne-eqb (length (c .before .before .before .before .args .out .now)) 72 (λ l. omega arith)) (c .refused .ensures, refl)
+returns c = rw (ne-eqb (length (c .before .before .before .before .args .out .now)) 72 (λ l. omega arith)) (c .returned .ensures, refl)
 
 region-requires : tie.Need-region-requires
 region-requires c κs = search needs
@@ -23,10 +23,10 @@ region-requires c κs = search needs
 keep-region-requires : tie.Need-keep-region-requires
 keep-region-requires c κs = search needs
 
-answer-requires : tie.Need-answer-requires
-answer-requires c κs =
+returned-requires-2 : tie.Need-returned-requires-2
+returned-requires-2 c κs =
     let start = c .before .before .before .before .before .before .before .before in
-    (rw (c .before .before .before .before .region .ensures .0) (region-place (start .args .file .now) (start .args .a) (start .args .b)), omega arith)
+    rw (c .before .before .before .before .region .ensures .0) (region-most (start .args .file .now) (start .args .a) (start .args .b))
 
 same-length : tie.Need-same-length
 same-length c = search needs
@@ -35,19 +35,18 @@ returns-2 : tie.Need-returns-2
 unfolding regionReturned regionLeft
 returns-2 c =
     let start = c .before .before .before .before .before .before .before .before .before in
-    let found = c .before .before .before .before .before .region in
-    let answer = found .ensures in
+    let answer = c .before .before .before .before .before .region .ensures in
     let left = rw (answer .0, answer .1, answer .2) at (c .before .before .before .keep-region .ensures) in
-    rw (eq-eqb (length (start .args .out .now)) 72 (omega arith)) (rw (answer .0) at (c .answer .ensures ∙ unshifted (found .result .verdict)), left)
+    rw (eq-eqb (length (start .args .out .now)) 72 (omega arith)) (rw (answer .0) at (c .returned2 .ensures), left)
 
 pub probe-region-spec : {M : Type 1} → statement M
 probe-region-spec =
     tie.close
     (tie.spec
-    refused-requires
+    returned-requires
     returns
     region-requires
     keep-region-requires
-    answer-requires
+    returned-requires-2
     same-length
     returns-2)

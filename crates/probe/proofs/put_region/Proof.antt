@@ -1,7 +1,7 @@
 -- `probe::put_region` meets its contract: the words are stored, and the length behind them.
 -- Assumes nothing.
 use native.Mathlib.Omega.{arith}
-use Rattle.probe.proofs.Answers.{region-stored}
+use Rattle.probe.proofs.Calls.{region-stored}
 use borrow.Author.Needs.{needs}
 use Rattle.probe.proofs.put_region.Statement.{statement}
 use Rattle.probe.proofs.put_region.Tie as tie

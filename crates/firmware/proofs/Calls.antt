@@ -1,26 +1,26 @@
 -- What the planner answers can be returned and stored: its places are at most 97, and an accepted plan fits a block.
 -- Assumes nothing.
-use Prim.Native.Nat.{ℕ, _+_, _≤_}
+use Prim.Native.Nat.{ℕ, _≤_}
 use mathlib.Core.Path.{_≡_, refl, sym, ap, _∙_}
-use mathlib.Core.Bool.{true, false, cond, not, _&&_, false≢true}
+use mathlib.Core.Bool.{true}
 use mathlib.Core.Logic.{_⊎_, inl, inr}
 use mathlib.Core.List.{List}
-use native.Mathlib.Nat.{add-zero}
 use native.Mathlib.Omega.{arith}
 use lib.ListN.{length, length-take}
 use Rattle.model.specs.Task.{blockCount}
 use Rattle.model.specs.Lists.{wellFormed}
 use Rattle.model.specs.Regions.{NoPlacementFits}
-use Rattle.model.specs.Answers.{place, returned, accepted, onAccepted, andThen, pricing}
+use Rattle.model.specs.Answers.{returned, verdictPlace, onAccepted, andThen, pricing, mostBlocks}
 use Rattle.model.specs.Planning.{chosen, planFor, noPlan, Planned}
 use Rattle.model.specs.declared.Plan.{Plan}
+use Rattle.model.specs.declared.Input.the-variants.{First}
 use Rattle.model.specs.declared.Refusal.{Refusal}
 use Rattle.model.specs.declared.Refusal.the-variants.{NoPlacement}
 use Rattle.model.specs.declared.Verdict.{Verdict}
 use Rattle.model.specs.declared.Verdict.the-variants.{Accepted, Refused}
 use Rattle.model.proofs.Verdicts.{never-both, both-accepted}
 use Rattle.model.proofs.Regions.{accepted-well-formed}
-use Rattle.model.proofs.Places.{placeIn, then-most, pricing-most}
+use Rattle.model.proofs.Places.{then-most, pricing-most}
 use Rattle.taskfile.specs.File.{verdict, taskOf}
 use Rattle.taskfile.proofs.Accepted as files
 use Rattle.taskfile.proofs.Places.{verdict-most}
@@ -30,16 +30,8 @@ use Rattle.planvalue.proofs.Lists.{list-stores}
 use Rattle.planblock.specs.Plans.{planBytes, readVerdict, planOf}
 use Rattle.planblock.proofs.Verdicts.{read-place}
 use Rattle.planblock.proofs.Roundtrip.{store-back}
-use Rattle.planner.specs.Calls.{PlanAnswer, blockVerdict, blockRefused, blockPlan}
+use Rattle.planner.specs.Calls.{PlanAnswer, blockVerdict, blockPlan}
 use Rattle.firmware.specs.Calls.{PlanCall, StoredBest}
-
-pub place-of : (v : Verdict) (x : Refusal) → placeIn v ≤ 97 → v ≡ Refused x → place x ≤ 97
-unfolding placeIn
-place-of v x h e = rw e at h
-
-pub on-refused : {A : Type 0} (v : Verdict) (a b : A) → accepted v ≡ false → b ≡ onAccepted v a b
-on-refused Accepted a b e = absurd (false≢true (sym e))
-on-refused (Refused x) a b e = refl
 
 -- the plan of a well-formed list of an accepted file
 stores : (file ps : List ℕ) → verdict file ≡ Accepted → wellFormed (blockCount (taskOf file)) ps ≡ true → planVerdict (planFor (taskOf file) ps) ≡ Accepted
@@ -50,15 +42,14 @@ stores file ps e w =
 
 -- planning
 
-pub plan-most : (file : List ℕ) (v : Verdict) (p : Plan) → PlanAnswer file v p → placeIn v ≤ 97
-unfolding placeIn
+pub plan-most : (file : List ℕ) (v : Verdict) (p : Plan) → PlanAnswer file v p → verdictPlace v ≤ mostBlocks
 plan-most file v p answer = go (verdict file) refl
   where
-    none : (v ≡ Accepted) ⊎ (v ≡ Refused NoPlacement) → placeIn v ≤ 97
+    none : (v ≡ Accepted) ⊎ (v ≡ Refused NoPlacement) → verdictPlace v ≤ mostBlocks
     none (inl e) = rw e (omega arith)
     none (inr e) = rw e (omega arith)
 
-    go : (w : Verdict) → verdict file ≡ w → placeIn v ≤ 97
+    go : (w : Verdict) → verdict file ≡ w → verdictPlace v ≤ mostBlocks
     go Accepted e = none (answer .planned e .answers)
     go (Refused x) e = rw (answer .refused x e .0) (rw e at (verdict-most file))
 
@@ -71,7 +62,7 @@ plan-stores file v p answer a = go (verdict file) refl
 
 -- what `leave` does with the answer is what the call promises
 pub plan-call : (file block : List ℕ) (v : Verdict) (p : Plan) (r : ℕ) (left : List ℕ) → length block ≡ 512 → PlanAnswer file v p
-    → r ≡ onAccepted v 0 (returned v + 0) → left ≡ onAccepted v (planBytes p) block → PlanCall file block r left
+    → r ≡ returned First v → left ≡ onAccepted v (planBytes p) block → PlanCall file block r left
 plan-call file block v p r left long answer e f =
     record {
       output = λ no. absurd (no long);
@@ -79,11 +70,11 @@ plan-call file block v p r left long answer e f =
       planned = λ l q. let known = answer .planned q in cases known (known .answers);
     }
   where
-    refuses : (x : Refusal) → v ≡ Refused x → (r ≡ returned (Refused x)) × (left ≡ block)
-    refuses x a = (e ∙ rw (a, add-zero) refl, f ∙ rw a refl)
+    refuses : (x : Refusal) → v ≡ Refused x → (r ≡ returned First (Refused x)) × (left ≡ block)
+    refuses x a = (e ∙ rw a refl, f ∙ rw a refl)
 
     cases : Planned (taskOf file) v p → (v ≡ Accepted) ⊎ (v ≡ Refused NoPlacement)
-        → (NoPlacementFits (taskOf file) × (r ≡ returned (Refused NoPlacement)) × (left ≡ block)) ⊎ (StoredBest (taskOf file) left × (r ≡ 0))
+        → (NoPlacementFits (taskOf file) × (r ≡ returned First (Refused NoPlacement)) × (left ≡ block)) ⊎ (StoredBest (taskOf file) left × (r ≡ 0))
     cases known (inl a) =
         inr (
           record { points = chosen p; best = known .best a; bytes = f ∙ rw a (ap planBytes (known .follows a)) },
@@ -103,13 +94,13 @@ module _ (file points : List ℕ) where
       let second = both-accepted (readVerdict points) (pricing (taskOf file) (chosen (planOf points))) (first .1) in
       (first .0, second .0, second .1)
 
-  pub block-most : placeIn (blockVerdict file points) ≤ 97
+  pub block-most : verdictPlace (blockVerdict file points) ≤ mostBlocks
   unfolding blockVerdict
   block-most =
       let p : Plan = planOf points in
-      then-most (verdict file) (andThen (readVerdict points) (pricing (taskOf file) (chosen p))) 97 (verdict-most file)
+      then-most (verdict file) (andThen (readVerdict points) (pricing (taskOf file) (chosen p))) mostBlocks (verdict-most file)
       (λ a.
-      then-most (readVerdict points) (pricing (taskOf file) (chosen p)) 97 (omega (arith, read-place points))
+      then-most (readVerdict points) (pricing (taskOf file) (chosen p)) mostBlocks (omega (arith, read-place points))
       (λ b. omega (arith, pricing-most (taskOf file) (chosen p), length-take (p .count) (p .points), count-accepted p (store-back points b .0))))
 
   pub block-stores : blockVerdict file points ≡ Accepted → planVerdict (blockPlan file points) ≡ Accepted
@@ -117,20 +108,6 @@ module _ (file points : List ℕ) where
   block-stores e =
       let all = parts e in
       rw e (stores file (chosen (planOf points)) (all .0) (accepted-well-formed (taskOf file) (chosen (planOf points)) (all .2)))
-
-  -- nothing is added to the place of an accepted answer
-  pub block-returned : onAccepted (blockVerdict file points) 0 (returned (blockVerdict file points) + cond (blockRefused file points) 97 0)
-      ≡ returned (blockVerdict file points) + cond (blockRefused file points) 97 0
-  unfolding blockVerdict blockRefused
-  block-returned = go (verdict file) (readVerdict points) (pricing (taskOf file) (chosen (planOf points)))
-    where
-      go : (u v w : Verdict)
-          → onAccepted (andThen u (andThen v w)) 0 (returned (andThen u (andThen v w)) + cond (accepted u && not (accepted v)) 97 0)
-          ≡ returned (andThen u (andThen v w)) + cond (accepted u && not (accepted v)) 97 0
-      go Accepted Accepted Accepted = refl
-      go Accepted Accepted (Refused x) = refl
-      go Accepted (Refused x) w = refl
-      go (Refused x) v w = refl
 
   -- the plan that is left is that of the points
   pub block-left : (block : List ℕ) → onAccepted (blockVerdict file points) (planBytes (blockPlan file points)) block

@@ -1,0 +1,41 @@
+-- What the planner answers can be returned, since its places are at most 97, and a region's words and length are stored as one list.
+-- Assumes nothing.
+use Prim.Native.Nat.{ℕ, _≤_}
+use mathlib.Core.Path.{_≡_}
+use mathlib.Core.Bool.{Bool, true, false, cond, _&&_}
+use mathlib.Core.List.{List, [], _∷_, _++_, append-nil}
+use native.Mathlib.Omega.{arith}
+use lib.Dec.{leb, ltb}
+use lib.ListN.{length, take, drop}
+use lib.Seq.{drop-length}
+use Rattle.model.specs.Task.{blockCount}
+use Rattle.model.specs.Answers.{verdictPlace, andThen, mostBlocks}
+use Rattle.model.specs.declared.Refusal.the-variants.{Argument}
+use Rattle.model.specs.declared.Verdict.the-variants.{Accepted, Refused}
+use Rattle.model.proofs.Places.{then-most}
+use Rattle.taskfile.specs.File.{verdict, taskOf}
+use Rattle.taskfile.proofs.Places.{verdict-most}
+use Rattle.block.specs.Bytes.{le, les}
+use Rattle.planblock.proofs.Storing.{les-snoc}
+use Rattle.planner.specs.Calls.{usefulVerdict, regionVerdict}
+
+-- the file's refusal, or 7 at 0
+file-most : (file : List ℕ) (right : Bool) → verdictPlace (andThen (verdict file) (cond right Accepted (Refused (Argument 0)))) ≤ mostBlocks
+file-most file right = then-most (verdict file) (cond right Accepted (Refused (Argument 0))) mostBlocks (verdict-most file) (λ a. argument right)
+  where
+    argument : (r : Bool) → verdictPlace (cond r Accepted (Refused (Argument 0))) ≤ mostBlocks
+    argument true = omega arith
+    argument false = omega arith
+
+pub useful-most : (file : List ℕ) (k : ℕ) → verdictPlace (usefulVerdict file k) ≤ mostBlocks
+unfolding usefulVerdict
+useful-most file k = file-most file (leb k (blockCount (taskOf file)))
+
+pub region-most : (file : List ℕ) (a b : ℕ) → verdictPlace (regionVerdict file a b) ≤ mostBlocks
+unfolding regionVerdict
+region-most file a b = file-most file (ltb a b && leb b (blockCount (taskOf file)))
+
+-- the words, and the length behind them
+pub region-stored : (ws bs new : List ℕ) (v : ℕ) → length bs ≡ 72 → take 64 bs ≡ les 8 ws → new ≡ take 64 bs ++ le 8 v ++ drop 72 bs
+    → new ≡ les 8 (ws ++ (v ∷ []))
+region-stored ws bs new v l p q = rw (q, p, ← l, drop-length, append-nil, les-snoc)

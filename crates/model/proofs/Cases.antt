@@ -14,10 +14,10 @@ use Rattle.model.specs.Sets.{Lines, countBelow}
 use Rattle.model.specs.Task.{Task, blockCount}
 use Rattle.model.specs.Lines.{lineOf, onLine, lastRead, firstRead, anyRead, readsOf, preempterReads, blockAt, stateAfter, nextRead, useful, accessed, accessedUseful, evicted}
 use Rattle.model.specs.Lists.{steps, regions, every, total, lowest, wellFormed, among, sameList, risingLists, allLists}
-use Rattle.model.specs.Regions.{unionAfter, timeAfter, loaded, regionLines, regionLength, regionFits, regionCost, lines, cost, fits}
+use Rattle.model.specs.Regions.{unionAfter, timeAfter, loaded, regionLines, regionLength, regionFits, regionCost, lines, cost, fits, NoPlacementFits}
 use Rattle.model.specs.Answers.{accepted, pricing, number, place}
-use Rattle.model.specs.Cases.{Case, usefulAre, accessedUsefulAre, evictedAre, loadedAre, lengthIs, bestAre, fittingAre, noneFits, priced, refused, lineIs, listed, Holds, cases}
-use Rattle.model.specs.declared.Refusal.{Refusal}
+use Rattle.model.specs.Cases.{Case, usefulAre, accessedUsefulAre, evictedAre, loadedAre, lengthIs, bestAre, fittingAre, noneFits, priced, refused, lineIs, listed, RefusedBy, CaseHolds, cases}
+use Rattle.model.specs.declared.Refusal.the-variants.{NoPlacement}
 use Rattle.model.specs.declared.Verdict.{Verdict}
 use Rattle.model.specs.declared.Verdict.the-variants.{Accepted, Refused}
 use Rattle.model.proofs.Verdicts.{is-accepted}
@@ -57,7 +57,7 @@ test (loadedAre t a b ds) = agreeBelow 512 (loaded t a b) (listed ds)
 test (lengthIs t a b l) = eqb (regionLength t a b) l
 test (bestAre t p pss) = some pss && everyList (λ ps. eqb (cost t ps) p) pss && exactly t (λ ps. fits t ps && leb (cost t ps) p) pss
 test (fittingAre t pss) = exactly t (fits t) pss
-test (noneFits t) = onAll t (λ ps. not (fits t ps))
+test (noneFits t n i) = onAll t (λ ps. not (fits t ps)) && refusedBy n i (Refused NoPlacement)
 test (priced t ps l p) = accepted (pricing t ps) && eqb (lines t ps) l && eqb (cost t ps) p
 test (refused t ps n i) = refusedBy n i (pricing t ps)
 test (lineIs t m c) = eqb (lineOf t m) c
@@ -133,7 +133,7 @@ module _ (t : Task) (p : ℕ) (pss : List (List ℕ)) (e : everyList (λ ps. eqb
   at-least : (ps : List ℕ) → wellFormed (blockCount t) ps ≡ true → fits t ps ≡ true → p ≤ cost t ps
   at-least ps w f = by-cases (decLe (cost t ps) p) (λ l. le-of-eq (sym (costs ps (within ps w f l)))) (λ l. omega arith)
 
-  best : some pss ≡ true → Holds (bestAre t p pss)
+  best : some pss ≡ true → CaseHolds (bestAre t p pss)
   best s = (
     λ ps m.
         (record { well-formed = parts ps m .0; fits = parts ps m .1; least = λ qs w f. le-trans (le-of-eq (costs ps m)) (at-least qs w f) }, costs ps m),
@@ -142,14 +142,14 @@ module _ (t : Task) (p : ℕ) (pss : List (List ℕ)) (e : everyList (λ ps. eqb
         within ps (b .well-formed) (b .fits) (le-trans (b .least qs (parts qs m .0) (parts qs m .1)) (le-of-eq (costs qs m))),
   )
 
-is-refused : (n i : ℕ) (v : Verdict) → refusedBy n i v ≡ true → (r : Refusal) × (v ≡ Refused r) × (number r ≡ n) × (place r ≡ i)
+is-refused : (n i : ℕ) (v : Verdict) → refusedBy n i v ≡ true → RefusedBy n i v
 unfolding refusedBy
 is-refused n i Accepted h = absurd (false≢true h)
 is-refused n i (Refused r) h =
     let both = and-split (eqb (number r) n) (eqb (place r) i) h in
     (r, refl, eqb-true (number r) n (both .0), eqb-true (place r) i (both .1))
 
-sound : (c : Case) → test c ≡ true → Holds c
+sound : (c : Case) → test c ≡ true → CaseHolds c
 unfolding test onLine
 sound (usefulAre t k ds) h = agree 512 (useful t k) (listed ds) h
 sound (accessedUsefulAre t k ds) h = agree 512 (accessedUseful t k) (listed ds) h
@@ -161,7 +161,10 @@ sound (bestAre t p pss) h =
     let two = and-split (some pss) (everyList (λ ps. eqb (cost t ps) p) pss) (three .0) in
     best t p pss (two .1) (exact t (λ ps. fits t ps && leb (cost t ps) p) pss (three .1)) (two .0)
 sound (fittingAre t pss) h = exact t (fits t) pss h
-sound (noneFits t) h = λ ps w f. false≢true (sym (not-true (fits t ps) (on-all t (λ ps. not (fits t ps)) h ps w)) ∙ f)
+sound (noneFits t n i) h =
+    let both = and-split (onAll t (λ ps. not (fits t ps))) (refusedBy n i (Refused NoPlacement)) h in
+    let none : NoPlacementFits t = λ ps w f. false≢true (sym (not-true (fits t ps) (on-all t (λ ps. not (fits t ps)) (both .0) ps w)) ∙ f) in
+    (none, λ v p planned. rw (planned .exactly none) (is-refused n i (Refused NoPlacement) (both .1)))
 sound (priced t ps l p) h =
     let three = and-split (accepted (pricing t ps) && eqb (lines t ps) l) (eqb (cost t ps) p) h in
     let two = and-split (accepted (pricing t ps)) (eqb (lines t ps) l) (three .0) in
@@ -173,11 +176,11 @@ all-pass : everyCase cases ≡ true
 unfolding everyCase test agreeBelow everyList onAll exactly some refusedBy listed useful stateAfter nextRead lastRead firstRead readsOf lineOf onLine accessed anyRead blockAt accessedUseful evicted preempterReads loaded unionAfter regionLines countBelow regionLength timeAfter regionFits regionCost every total lowest regions steps among sameList risingLists
 all-pass = refl
 
-held : (cs : List Case) → everyCase cs ≡ true → (c : Case) → List·Memᴰ c cs → Holds c
+held : (cs : List Case) → everyCase cs ≡ true → (c : Case) → List·Memᴰ c cs → CaseHolds c
 unfolding everyCase
 held (d ∷ ds) h c (List·Memᴰ·head e) = rw e (sound d (and-split (test d) (everyCase ds) h .0))
 held (d ∷ ds) h c (List·Memᴰ·tail m) = held ds (and-split (test d) (everyCase ds) h .1) c m
 
 -- all at once
-pub cases-hold : (c : Case) → List·Memᴰ c cases → Holds c
+pub cases-hold : (c : Case) → List·Memᴰ c cases → CaseHolds c
 cases-hold = held cases all-pass

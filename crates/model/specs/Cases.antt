@@ -11,7 +11,10 @@ use Rattle.model.specs.Lines.{onLine, useful, accessedUseful, evicted}
 use Rattle.model.specs.Lists.{wellFormed, among}
 use Rattle.model.specs.Regions.{loaded, regionLength, lines, cost, fits, BestList, NoPlacementFits}
 use Rattle.model.specs.Answers.{pricing, number, place}
+use Rattle.model.specs.Planning.{Planned}
+use Rattle.model.specs.declared.Plan.{Plan}
 use Rattle.model.specs.declared.Refusal.{Refusal}
+use Rattle.model.specs.declared.Verdict.{Verdict}
 use Rattle.model.specs.declared.Verdict.the-variants.{Accepted, Refused}
 
 pub data Case : Type 0 where
@@ -22,7 +25,7 @@ pub data Case : Type 0 where
   lengthIs : Task → ℕ → ℕ → ℕ → Case  -- the length of region (a, b)
   bestAre : Task → ℕ → List (List ℕ) → Case  -- the least cost, and all the lists that reach it
   fittingAre : Task → List (List ℕ) → Case  -- all the lists that fit
-  noneFits : Task → Case  -- refusal 6
+  noneFits : Task → ℕ → ℕ → Case  -- no list fits, and planning refuses by this number at this place
   priced : Task → List ℕ → ℕ → ℕ → Case  -- a list's lines and cost
   refused : Task → List ℕ → ℕ → ℕ → Case  -- pricing refuses the list by this number at this place
   lineIs : Task → ℕ → ℕ → Case  -- the line of a number
@@ -35,19 +38,23 @@ listed (d ∷ ds) c = eqb d c || listed ds c
 abbrev pub Are : Lines → List ℕ → Type 0
 Are s ds = (c : ℕ) → c < 512 → s c ≡ listed ds c
 
-abbrev pub Holds : Case → Type 0
-Holds (usefulAre t k ds) = Are (useful t k) ds
-Holds (accessedUsefulAre t k ds) = Are (accessedUseful t k) ds
-Holds (evictedAre t ds) = Are (evicted t) ds
-Holds (loadedAre t a b ds) = Are (loaded t a b) ds
-Holds (lengthIs t a b l) = regionLength t a b ≡ l
-Holds (bestAre t p pss) =
+-- a refusal by this number at this place
+abbrev pub RefusedBy : ℕ → ℕ → Verdict → Type 0
+RefusedBy n i v = (r : Refusal) × (v ≡ Refused r) × (number r ≡ n) × (place r ≡ i)
+
+abbrev pub CaseHolds : Case → Type 0
+CaseHolds (usefulAre t k ds) = Are (useful t k) ds
+CaseHolds (accessedUsefulAre t k ds) = Are (accessedUseful t k) ds
+CaseHolds (evictedAre t ds) = Are (evicted t) ds
+CaseHolds (loadedAre t a b ds) = Are (loaded t a b) ds
+CaseHolds (lengthIs t a b l) = regionLength t a b ≡ l
+CaseHolds (bestAre t p pss) =
     ((ps : List ℕ) → among ps pss ≡ true → BestList t ps × (cost t ps ≡ p)) × ((ps : List ℕ) → BestList t ps → among ps pss ≡ true)
-Holds (fittingAre t pss) = (ps : List ℕ) → (wellFormed (blockCount t) ps && fits t ps) ≡ among ps pss
-Holds (noneFits t) = NoPlacementFits t
-Holds (priced t ps l p) = (pricing t ps ≡ Accepted) × (lines t ps ≡ l) × (cost t ps ≡ p)
-Holds (refused t ps n i) = (r : Refusal) × (pricing t ps ≡ Refused r) × (number r ≡ n) × (place r ≡ i)
-Holds (lineIs t m c) = (d : ℕ) → onLine t d m ≡ eqb d c
+CaseHolds (fittingAre t pss) = (ps : List ℕ) → (wellFormed (blockCount t) ps && fits t ps) ≡ among ps pss
+CaseHolds (noneFits t n i) = NoPlacementFits t × ((v : Verdict) (p : Plan) → Planned t v p → RefusedBy n i v)
+CaseHolds (priced t ps l p) = (pricing t ps ≡ Accepted) × (lines t ps ≡ l) × (cost t ps ≡ p)
+CaseHolds (refused t ps n i) = RefusedBy n i (pricing t ps)
+CaseHolds (lineIs t m c) = (d : ℕ) → onLine t d m ≡ eqb d c
 
 abbrev pub block : ℕ → List ℕ → Block
 block time reads = record { time = time; reads = reads }
@@ -113,13 +120,13 @@ cases =
     -- Q 30: only 1, 2, 3 fits; cost 10, lines 1
     fittingAre (fileSeven 4 30) ((1 ∷ 2 ∷ 3 ∷ []) ∷ []) ∷ priced (fileSeven 4 30) (1 ∷ 2 ∷ 3 ∷ []) 1 10 ∷
     -- Q 29: refusal 6, though every time is 20
-    noneFits (fileSeven 4 29) ∷
+    noneFits (fileSeven 4 29) 6 0 ∷
     -- Q 60, list 1: refusal 8, region 1, whose length is 70
     refused (fileSeven 4 60) (1 ∷ []) 8 1 ∷ lengthIs (fileSeven 4 60) 1 4 70 ∷
     -- list 2, 2: refusal 7, place 1
     refused (fileSeven 4 60) (2 ∷ 2 ∷ []) 7 1 ∷
     -- one basic block of 60: no points at Q 60, refusal 6 at Q 59
-    bestAre (oneBlock 60) 0 ([] ∷ []) ∷ noneFits (oneBlock 59) ∷
+    bestAre (oneBlock 60) 0 ([] ∷ []) ∷ noneFits (oneBlock 59) 6 0 ∷
     -- S 512: number 300 is line 300, 512 is line 0
     lineIs (fileSeven 512 60) 300 300 ∷ lineIs (fileSeven 512 60) 512 0 ∷
     -- File Seven's H is {0, 1}

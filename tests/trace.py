@@ -27,6 +27,10 @@ def stands(kind, name):
     if kind.startswith("edit"):
         crate, edit = name.split("/")
         return os.path.exists(os.path.join(CRATES, crate, "must-fail", edit + ".edit"))
+    if kind.startswith("statement"):
+        crate, file, item = re.split(r"[/.]", name)
+        proof = re.sub(r"(?<!^)(?=[A-Z])", "-", item).lower()
+        return defines(read(crate, "specs", file + ".antt"), item) and re.search(rf"(?m)^pub {proof} : {item}$", read(crate, "proofs"))
     if kind.startswith("law"):
         crate, file, law = re.split(r"[/.]", name)
         return defines(read(crate, "proofs", file + ".antt"), law)
@@ -51,7 +55,7 @@ def main():
         rows = file.read().split("## Introduction")[1]
     missing = []
     # names after one of these words, or after a program's name, are of that kind up to the next ; or |
-    for kind, names in re.findall(r"(edits? |laws? |cases? (?:of )?|`\w+`: )?((?:`[^`|]+`(?:, )?)+)", rows):
+    for kind, names in re.findall(r"(edits? |statements? |laws? |cases? (?:of )?|`\w+`: )?((?:`[^`|]+`(?:, )?)+)", rows):
         missing += [f"{kind}{name}" for name in re.findall(r"`([^`]+)`", names) if not stands(kind, name)]
     for name in dict.fromkeys(missing):
         print("not in the tree:", name)

@@ -17,6 +17,7 @@ use Rattle.model.specs.Lists.{steps, regions, every, total, lowest, well
 use Rattle.model.specs.Regions.{unionAfter, timeAfter, loaded, regionLines, regionLength, regionFits, regionCost, lines, cost, fits, NoPlacementFits}
 use Rattle.model.specs.Answers.{accepted, pricing, number, place}
 use Rattle.model.specs.Cases.{Case, usefulAre, accessedUsefulAre, evictedAre, loadedAre, lengthIs, bestAre, fittingAre, noneFits, priced, refused, lineIs, listed, RefusedBy, CaseHolds, cases}
+use Rattle.model.specs.Laws.{CasesHold}
 use Rattle.model.specs.declared.Refusal.the-variants.{NoPlacement}
 use Rattle.model.specs.declared.Verdict.{Verdict}
 use Rattle.model.specs.declared.Verdict.the-variants.{Accepted, Refused}
@@ -181,6 +182,5 @@ unfolding everyCase
 held (d ∷ ds) h c (List·Memᴰ·head e) = rw e (sound d (and-split (test d) (everyCase ds) h .0))
 held (d ∷ ds) h c (List·Memᴰ·tail m) = held ds (and-split (test d) (everyCase ds) h .1) c m
 
--- all at once
-pub cases-hold : (c : Case) → List·Memᴰ c cases → CaseHolds c
+pub cases-hold : CasesHold
 cases-hold = held cases all-pass

@@ -12,6 +12,7 @@ use mathlib.Core.Bool.{Bool, true, false, cond, _||_, or-assoc, or-false, true�
 use mathlib.Core.List.{List, [], _∷_, _++_}
 use Rattle.model.specs.Task.{Task, blockCount}
 use Rattle.model.specs.Lines.{lineOf, onLine, lastRead, firstRead, anyRead, sameBlock, readsOf, stateAfter, nextRead, useful}
+use Rattle.model.specs.Laws.{EmptyNotUseful, UsefulStart, UsefulEnd}
 use Rattle.model.specs.declared.Line.{Line}
 use Rattle.model.specs.declared.Line.the-variants.{Empty, Held}
 
@@ -67,17 +68,21 @@ pub never-empty : (l : Line) → sameBlock l Empty ≡ false
 never-empty Empty = refl
 never-empty (Held n) = refl
 
--- nothing is held before the first read, and nothing is read after the last: U(0) and U(N) are empty
-
-pub useful-start : (t : Task) (c : ℕ) → useful t 0 c ≡ false
-unfolding useful stateAfter readsOf lastRead
-useful-start t c = holds-none (nextRead t 0 c)
+pub empty-not-useful : EmptyNotUseful
+unfolding useful
+empty-not-useful t k c e = rw e (holds-none (nextRead t k c))
   where
     holds-none : (l : Line) → sameBlock Empty l ≡ false
     holds-none Empty = refl
     holds-none (Held n) = refl
 
-pub useful-end : (t : Task) (c : ℕ) → useful t (blockCount t) c ≡ false
+-- nothing is held before the first read, and nothing is read after the last
+
+pub useful-start : UsefulStart
+unfolding stateAfter readsOf lastRead
+useful-start t c = empty-not-useful t 0 c refl
+
+pub useful-end : UsefulEnd
 unfolding useful nextRead readsOf firstRead
 useful-end t c = rw (drop-length (t .blocks)) (never-empty (stateAfter t (blockCount t) c))
 

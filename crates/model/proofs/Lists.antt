@@ -10,7 +10,8 @@ use native.Mathlib.Decide.{ℕ-discrete}
 use lib.Dec.{eqb, ltb}
 use lib.ListN.{length, getD}
 use borrow.Author.Tests.{eqb-true, eqb-false, eq-eqb, ne-eqb, ltb-true, ltb-false, lt-ltb, le-ltb}
-use Rattle.model.specs.Lists.{Region, steps, every, rightPoint, wellFormed, sameList, among, risingLists, allLists, lowest}
+use Rattle.model.specs.Lists.{Region, steps, every, rightPoint, sameList, among, risingLists, lowest}
+use Rattle.model.specs.Laws.{Enumerated}
 use Rattle.model.specs.declared.Place.the-variants.{Nowhere, At}
 
 pub and-split : (a b : Bool) → (a && b) ≡ true → (a ≡ true) × (b ≡ true)
@@ -94,8 +95,7 @@ rising n (suc k) a e (p ∷ ps) =
     from-next n a p (omega arith) (every (rightPoint n) (steps p ps)) (every (rightPoint n) (steps (suc a) ps))
     (λ q. ap (λ (b : ℕ). every (rightPoint n) (steps b ps)) q)
 
--- the enumeration of all lists has every well-formed list and no other
-pub enumerated : (n : ℕ) → 0 < n → (ps : List ℕ) → among ps (allLists n) ≡ wellFormed n ps
+pub enumerated : Enumerated
 enumerated n h ps = rising n (n - 1) 0 (omega arith) ps
 
 -- where a test holds of each, none is the lowest at which it does not

@@ -13,8 +13,9 @@ use Rattle.model.specs.Task.{Task, blockCount}
 use Rattle.model.specs.Lists.{Region, steps, regions, total, rightPoint, wellFormed, wrongPoint}
 use Rattle.model.specs.Lines.{useful, accessedUseful, evicted}
 use Rattle.model.specs.Regions.{unionAfter, timeAfter, loaded, regionLines, regionLength, regionFits, regionCost}
-use Rattle.model.specs.Regions.{lines, cost, fits, regionAbove}
+use Rattle.model.specs.Regions.{lines, fits, regionAbove}
 use Rattle.model.specs.Answers.{refusedAt, pricing}
+use Rattle.model.specs.Laws.{CostOfLines}
 use Rattle.model.specs.declared.Place.{Place}
 use Rattle.model.specs.declared.Place.the-variants.{Nowhere, At}
 use Rattle.model.specs.declared.Refusal.the-variants.{Argument, AboveLimit}
@@ -29,8 +30,7 @@ scaled t (r ∷ rs) =
     ap (λ (n : ℕ). t .reload * regionLines t (r .from) (r .to) + n) (scaled t rs) ∙
     sym (mul-add (t .reload) (regionLines t (r .from) (r .to)) (total (regionLines t) rs))
 
--- a list's cost is R times its lines
-pub cost-of-lines : (t : Task) (ps : List ℕ) → cost t ps ≡ t .reload * lines t ps
+pub cost-of-lines : CostOfLines
 cost-of-lines t ps = scaled t (regions (blockCount t) 0 ps)
 
 lines-region : (t : Task) (a b : ℕ) → regionLines t a b ≤ 512

@@ -2,18 +2,20 @@
 -- Assumes nothing.
 use mathlib.Core.Bool.{false}
 use mathlib.Core.List.{List, [], _∷_}
-use mathlib.Core.Path.{_≡_, refl, sym, ap, _∙_}
+use mathlib.Core.Path.{_≡_, refl, sym, ap, _∙_, fun-ext}
 use Prim.Native.Nat.{ℕ, zero, suc, _+_, _*_, _/_, _%_, _^_, _≤_, _<_}
-use native.Mathlib.Nat.{le-of-suc-le-suc, not-suc-le-zero, div-add-mod'}
+use native.Mathlib.Nat.{le-of-suc-le-suc, not-suc-le-zero, zero-add, add-zero, add-assoc, div-add-mod'}
 use native.Mathlib.Omega.{arith}
 use lib.Arith.{digits-div, digits-mod}
+use lib.Count.{ones}
 use lib.ListN.{length, getD, List·getD-eq-default}
 use lib.Pow.{pow-pos}
 use lib.Seq.{ext-getD}
 use mir.Syntax.{w64}
 use mir.Val.{Fits}
-use Rattle.model.specs.Sets.{Lines, size, digit, word, words, inWords}
-use Rattle.model.proofs.Digits.{digit-of-zero, digit-digits, digits-agree, digits-digit, digits-lt, count-agree}
+use Rattle.model.specs.Sets.{Lines, size, countBelow, digit, word, words, inWords}
+use Rattle.model.specs.Laws.{WordsHold, SizeIsOnes, oneBits}
+use Rattle.model.proofs.Digits.{digit-of-zero, digit-digits, digits-agree, digits-digit, digits-lt, count-add, count-agree, count-ones}
 
 -- eight words of 64 digits
 pub record Eight (ws : List ℕ) : Type 0 where
@@ -60,9 +62,9 @@ unfolding inWords
 in-word ws k j h = rw (digits-div k h, digits-mod k h)
 
 -- the set of a set's words is the set, below 512
-pub in-words : (s : Lines) (c : ℕ) → c < 512 → inWords (words s) c ≡ s c
+pub words-hold : WordsHold
 unfolding inWords word
-in-words s c h =
+words-hold s c h =
     rw (words-table, table-at 8 (word s) (c / 64) (omega arith))
     (rw (digit-digits 64 (λ j. s (c / 64 * 64 + j)) (c % 64) (omega arith), div-add-mod'))
 
@@ -76,10 +78,6 @@ words-eight s = record {
   eight = rw words-table (table-length 8 (word s));
   small = rw words-table (table-lt 8 (2 ^ 64) (pow-pos 64) (word-lt s));
 }
-
--- and empty from there on
-pub in-words-above : (s : Lines) (c : ℕ) → 512 ≤ c → inWords (words s) c ≡ false
-in-words-above s c h = in-eight-above (words s) (words-eight s .eight) c h
 
 -- a list is a set's words where each of its eight words is
 pub words-are : (s : Lines) {ws : List ℕ} → length ws ≡ 8 → ((k : ℕ) → k < 8 → word s k ≡ getD ws k 0) → words s ≡ ws
@@ -107,3 +105,23 @@ size-agree h = count-agree 512 h
 -- words that hold the same lines are equal
 pub same-words : {ws vs : List ℕ} → Eight ws → Eight vs → ((c : ℕ) → c < 512 → inWords ws c ≡ inWords vs c) → ws ≡ vs
 same-words h k e = sym (words-in h) ∙ words-agree e ∙ words-in k
+
+-- the lines of a set counted word by word
+
+ones-word : (s : Lines) (w : ℕ) → ones (word s w) ≡ countBelow 64 (λ j. s (w * 64 + j))
+unfolding word
+ones-word s w =
+    count-ones 64 (word s w) (word-lt s w) ∙ count-agree 64 (digit-digits 64 (λ j. s (w * 64 + j)))
+
+ones-from : (n k : ℕ) (s : Lines) → countBelow ((k + n) * 64) s ≡ countBelow (k * 64) s + oneBits (table n (λ i. word s (k + i)))
+unfolding table oneBits
+ones-from zero k s = simp add-zero
+ones-from (suc n) k s =
+    let e : (k + suc n) * 64 ≡ (suc k + n) * 64 = omega arith in
+    let f : suc k * 64 ≡ k * 64 + 64 = omega arith in
+    let g : _≡_ {A = ℕ → ℕ} (λ i. word s (suc k + i)) (λ i. word s (k + suc i)) = fun-ext (λ i. ap (word s) (omega arith)) in
+    rw (e, ones-from n (suc k) s, f, count-add, ← ones-word s k, add-zero, g) (add-assoc _ _ _)
+
+pub size-is-ones : SizeIsOnes
+unfolding countBelow table words
+size-is-ones s = ones-from 8 0 s ∙ zero-add _

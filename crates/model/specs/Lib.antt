@@ -6,3 +6,4 @@ pub mod Regions
 pub mod Answers
 pub mod Planning
 pub mod Cases
+pub mod Laws

@@ -43,7 +43,7 @@ regionCost t a b = t .reload * regionLines t a b
 abbrev pub lines : Task → List ℕ → ℕ
 lines t ps = total (regionLines t) (regions (blockCount t) 0 ps)
 
--- a list's cost; it is R times its lines (the law cost-of-lines)
+-- a list's cost; it is R times its lines (CostOfLines)
 abbrev pub cost : Task → List ℕ → ℕ
 cost t ps = listCost (regionCost t) (blockCount t) ps
 

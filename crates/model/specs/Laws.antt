@@ -1,0 +1,51 @@
+-- What document 01 says of the definitions and no contract states. Each is proved in proofs/ under its name in small letters.
+-- Assumes nothing.
+use Prim.Native.Nat.{ℕ, _+_, _*_, _<_}
+use mathlib.Core.Path.{_≡_}
+use mathlib.Core.Bool.{false}
+use mathlib.Core.List.{List, [], _∷_, List·Memᴰ}
+use lib.Count.{ones}
+use Rattle.model.specs.Sets.{Lines, size, words, inWords}
+use Rattle.model.specs.Task.{Task, blockCount}
+use Rattle.model.specs.Lines.{stateAfter, useful}
+use Rattle.model.specs.Lists.{wellFormed, among, allLists}
+use Rattle.model.specs.Regions.{lines, cost}
+use Rattle.model.specs.Cases.{Case, CaseHolds, cases}
+use Rattle.model.specs.declared.Line.the-variants.{Empty}
+
+-- line c is bit c mod 64 of word c div 64
+abbrev pub WordsHold : Type 0
+WordsHold = (s : Lines) (c : ℕ) → c < 512 → inWords (words s) c ≡ s c
+
+-- the one bits of these words
+unfoldable pub oneBits : List ℕ → ℕ
+oneBits [] = 0
+oneBits (w ∷ ws) = ones w + oneBits ws
+
+-- the size of a set is the number of its one bits
+abbrev pub SizeIsOnes : Type 0
+SizeIsOnes = (s : Lines) → size s ≡ oneBits (words s)
+
+-- an empty line is never in U
+abbrev pub EmptyNotUseful : Type 0
+EmptyNotUseful = (t : Task) (k c : ℕ) → stateAfter t k c ≡ Empty → useful t k c ≡ false
+
+-- so U(0) is empty
+abbrev pub UsefulStart : Type 0
+UsefulStart = (t : Task) (c : ℕ) → useful t 0 c ≡ false
+
+-- and so is U(N)
+abbrev pub UsefulEnd : Type 0
+UsefulEnd = (t : Task) (c : ℕ) → useful t (blockCount t) c ≡ false
+
+-- a list's price is R times its lines
+abbrev pub CostOfLines : Type 0
+CostOfLines = (t : Task) (ps : List ℕ) → cost t ps ≡ t .reload * lines t ps
+
+-- all lists of points, of which demand 3 speaks and which the cases try: every well-formed list, the empty one too, and no other
+abbrev pub Enumerated : Type 0
+Enumerated = (n : ℕ) → 0 < n → (ps : List ℕ) → among ps (allLists n) ≡ wellFormed n ps
+
+-- the cases marked P hold of the definitions, jointly
+abbrev pub CasesHold : Type 0
+CasesHold = (c : Case) → List·Memᴰ c cases → CaseHolds c

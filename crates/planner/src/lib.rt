@@ -36,7 +36,8 @@ pub struct BlockPrice {
 
 // U(k) of a file.
 pub fn useful(file: &[u8], k: usize) -> UsefulLines
-    ensures { λ r. ⌜ (r .verdict ≡ usefulVerdict (now (file .entry)) k) × (r .lines .words ≡ usefulWords (now (file .entry)) k) ⌝ }
+    ensures { λ r. ⌜ r .verdict ≡ usefulVerdict (now (file .entry)) k ⌝ }
+    ensures { λ r. ⌜ r .lines .words ≡ usefulWords (now (file .entry)) k ⌝ }
 {
     let checked = taskfile::check(file);
     let Verdict::Accepted = checked else {
@@ -59,7 +60,9 @@ pub fn useful(file: &[u8], k: usize) -> UsefulLines
 
 // The loaded lines and the length of a region (a, b).
 pub fn region(file: &[u8], a: usize, b: usize) -> RegionLines
-    ensures { λ r. ⌜ (r .verdict ≡ regionVerdict (now (file .entry)) a b) × (r .loaded .words ≡ loadedWords (now (file .entry)) a b) × (r .length ≡ lengthOf (now (file .entry)) a b) ⌝ }
+    ensures { λ r. ⌜ r .verdict ≡ regionVerdict (now (file .entry)) a b ⌝ }
+    ensures { λ r. ⌜ r .loaded .words ≡ loadedWords (now (file .entry)) a b ⌝ }
+    ensures { λ r. ⌜ r .length ≡ lengthOf (now (file .entry)) a b ⌝ }
 {
     let checked = taskfile::check(file);
     let Verdict::Accepted = checked else {
@@ -93,7 +96,9 @@ fn no_region(verdict: Verdict) -> RegionLines
 
 // The lines and the cost of a list of points.
 pub fn price(file: &[u8], points: &[u16]) -> Price
-    ensures { λ r. ⌜ (r .verdict ≡ priceVerdict (now (file .entry)) (now (points .entry))) × (r .lines ≡ priceLines (now (file .entry)) (now (points .entry))) × (r .cost ≡ priceCost (now (file .entry)) (now (points .entry))) ⌝ }
+    ensures { λ r. ⌜ r .verdict ≡ priceVerdict (now (file .entry)) (now (points .entry)) ⌝ }
+    ensures { λ r. ⌜ r .lines ≡ priceLines (now (file .entry)) (now (points .entry)) ⌝ }
+    ensures { λ r. ⌜ r .cost ≡ priceCost (now (file .entry)) (now (points .entry)) ⌝ }
 {
     let checked = taskfile::check(file);
     let Verdict::Accepted = checked else {
@@ -108,7 +113,9 @@ pub fn price(file: &[u8], points: &[u16]) -> Price
 
 // The plan of the points of a plan block, with the file's N and id.
 pub fn price_block(file: &[u8], block: &[u8]) -> BlockPrice
-    ensures { λ r. ⌜ (r .verdict ≡ blockVerdict (now (file .entry)) (now (block .entry))) × (r .input ≡ blockInput (now (file .entry)) (now (block .entry))) × (r .plan ≡ blockPlan (now (file .entry)) (now (block .entry))) ⌝ }
+    ensures { λ r. ⌜ r .verdict ≡ blockVerdict (now (file .entry)) (now (block .entry)) ⌝ }
+    ensures { λ r. ⌜ r .input ≡ blockInput (now (file .entry)) (now (block .entry)) ⌝ }
+    ensures { λ r. ⌜ r .plan ≡ blockPlan (now (file .entry)) (now (block .entry)) ⌝ }
 {
     let checked = taskfile::check(file);
     let read = planblock::read(block);

@@ -26,7 +26,7 @@ leave-requires c κs =
     let file = start .args .file .now in
     let points = start .args .points .now in
     let answer = c .before .before .price-block .ensures in
-    rw (answer .0, answer .2) (search needs, block-stores file points, block-most file points)
+    rw (answer .0, answer .1 .1) (search needs, block-stores file points, block-most file points)
 
 same-length : tie.Need-same-length
 same-length c = search needs
@@ -39,7 +39,7 @@ returns-2 c =
     let points = start .args .points .now in
     let block = start .args .block .now in
     let answer = c .before .before .before .before .before .price-block .ensures in
-    let left = rw (answer .0, answer .1, answer .2) at (c .before .before .leave .ensures) in
+    let left = rw (answer .0, answer .1 .0, answer .1 .1) at (c .before .before .leave .ensures) in
     rw (eq-eqb (length block) 512 (omega arith)) (left .0, left .1 ∙ block-left file points block)
 
 pub preempt-price-spec : {M : Type 1} → statement M

@@ -17,7 +17,7 @@ enum-told-2 c = search needs
 
 returns : tie.Need-returns
 unfolding priceVerdict priceLines priceCost
-returns c = let check = c .before .before .check in rw (← check .ensures, c .enum-told2 .given .1) (refl, refl, refl)
+returns c = let check = c .before .before .check in rw (← check .ensures, c .enum-told2 .given .1) (refl, (refl, refl))
 
 price-of-requires : tie.Need-price-of-requires
 price-of-requires c κs = sym (c .before .before .check .ensures) ∙ c .enum-told .given .1
@@ -26,7 +26,7 @@ returns-2 : tie.Need-returns-2
 unfolding priceVerdict priceLines priceCost
 returns-2 c =
     let accepted = sym (c .before .before .before .check .ensures) ∙ c .before .enum-told .given .1 in
-    rw accepted (c .price-of .ensures .verdict, c .price-of .ensures .lines, c .price-of .ensures .cost)
+    rw accepted (c .price-of .ensures .verdict, (c .price-of .ensures .lines, c .price-of .ensures .cost))
 
 pub price-spec : {M : Type 1} → statement M
 price-spec =

@@ -55,8 +55,7 @@ returns c =
     let later = before-refused (verdict file) (readVerdict block) (pricing (taskOf file) (chosen (planOf block))) _ earlier in
     let answers = c .no-block-price .ensures in (
       answers .0 ∙ c .before .before .enum-told2 .given .1 ∙ sym later,
-      answers .1 ∙ rw (check, read .0) at (c .before .whose .ensures),
-      rw later (answers .2),
+      (answers .1 ∙ rw (check, read .0) at (c .before .whose .ensures), rw later (answers .2)),
     )
 
 price-points-requires : tie.Need-price-points-requires
@@ -82,7 +81,7 @@ returns-2 c =
     let earlier = rw (check, read .0) at (sym (priced .before .before .before .earlier .ensures) ∙ priced .before .enum-told .given .1) in
     let both = both-accepted (verdict file) (readVerdict block) earlier in
     let answers = rw (read .1, both .1) at (priced .price-points .ensures) in
-    rw (both .0, both .1) (answers .0, refl, answers .1)
+    rw (both .0, both .1) (answers .0, (refl, answers .1))
 
 pub price-block-spec : {M : Type 1} → statement M
 price-block-spec =

@@ -30,7 +30,7 @@ unfolding regionVerdict loadedWords lengthOf
 returns c =
     let check = c .before .before .before .check .ensures in
     let told = c .before .enum-told2 .given .1 in
-    rw (c .no-region .ensures .0, c .no-region .ensures .1, c .no-region .ensures .2, ← check, told) (refl, refl, refl)
+    rw (c .no-region .ensures .0, c .no-region .ensures .1, c .no-region .ensures .2, ← check, told) (refl, (refl, refl))
 
 no-region-requires-2 : tie.Need-no-region-requires-2
 no-region-requires-2 c κs = search needs
@@ -41,7 +41,7 @@ returns-2 c =
     let start = c .before .before .before .before .before .before in
     let accepted = sym (c .before .before .before .before .check .ensures) ∙ c .before .before .enum-told .given .1 in
     rw (c .no-region2 .ensures .0, c .no-region2 .ensures .1, c .no-region2 .ensures .2, accepted, le-ltb (start .args .a) (start .args .b) (omega arith))
-    (refl, refl, refl)
+    (refl, (refl, refl))
 
 block-count-requires : tie.Need-block-count-requires
 block-count-requires c κs = sym (c .before .before .before .check .ensures) ∙ c .before .enum-told .given .1
@@ -62,7 +62,7 @@ returns-3 c =
       lt-ltb (start .args .a) (start .args .b) (omega arith),
       lt-leb (start .args .b) (blockCount (taskOf (start .args .file .now))) (omega arith),
     )
-    (refl, refl, refl)
+    (refl, (refl, refl))
 
 measure-requires : tie.Need-measure-requires
 measure-requires c κs = (sym (c .before .before .before .before .before .check .ensures) ∙ c .before .before .before .enum-told .given .1, omega arith, omega arith)
@@ -79,9 +79,11 @@ returns-4 c =
       le-leb (start .args .b) (blockCount (taskOf (start .args .file .now))) (omega arith),
     ) (
       refl,
-      set-words (loaded (taskOf (start .args .file .now)) (start .args .a) (start .args .b)) (found .result .loaded) (search (needs, fits-word))
-          (λ d h. found .ensures .loaded d),
-      found .ensures .length,
+      (
+        set-words (loaded (taskOf (start .args .file .now)) (start .args .a) (start .args .b)) (found .result .loaded) (search (needs, fits-word))
+            (λ d h. found .ensures .loaded d),
+        found .ensures .length,
+      ),
     )
 
 pub region-spec : {M : Type 1} → statement M

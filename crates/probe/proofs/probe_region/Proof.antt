@@ -36,7 +36,7 @@ unfolding regionReturned regionLeft
 returns-2 c =
     let start = c .before .before .before .before .before .before .before .before .before in
     let answer = c .before .before .before .before .before .region .ensures in
-    let left = rw (answer .0, answer .1, answer .2) at (c .before .before .before .keep-region .ensures) in
+    let left = rw (answer .0, answer .1 .0, answer .1 .1) at (c .before .before .before .keep-region .ensures) in
     rw (eq-eqb (length (start .args .out .now)) 72 (omega arith)) (rw (answer .0) at (c .returned2 .ensures), left)
 
 pub probe-region-spec : {M : Type 1} → statement M

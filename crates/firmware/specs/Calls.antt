@@ -32,7 +32,7 @@ pub record PlanCall (file block : List ℕ) (r : ℕ) (left : List ℕ) : Type 0
   pub planned : length block ≡ 512 → verdict file ≡ Accepted
       → (NoPlacementFits (taskOf file) × (r ≡ returned First (Refused NoPlacement)) × (left ≡ block)) ⊎ (StoredBest (taskOf file) left × (r ≡ 0))
 
--- pricing the points of a first block, whose own refusals are a second input's
+-- pricing the points of a first block; the file is the first input, that block the second
 unfoldable pub priceReturned : List ℕ → List ℕ → List ℕ → ℕ
 priceReturned file points block =
     cond (eqb (length block) 512) (returned (blockInput file points) (blockVerdict file points)) (returned First (Refused Output))

@@ -56,7 +56,7 @@ priceCost file ps = onAccepted (priceVerdict file ps) (cost (taskOf file) ps) 0
 unfoldable pub blockVerdict : List ℕ → List ℕ → Verdict
 blockVerdict file block = andThen (verdict file) (andThen (readVerdict block) (pricing (taskOf file) (chosen (planOf block))))
 
--- whose refusal that is: the plan block is the second input, and its points are priced as the file's
+-- whose refusal that is: the block's own are a second input's; 7 and 8, of its points, keep their places
 abbrev pub blockInput : List ℕ → List ℕ → Input
 blockInput file block = whose (verdict file) (readVerdict block)
 

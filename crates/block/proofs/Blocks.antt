@@ -1,26 +1,27 @@
 -- Laws of blocks of 512 bytes: the tests of a checksum and of a body, part by part, and what the tests say together.
 -- Assumes nothing.
-use Prim.Native.Nat.{ℕ, zero, suc, _+_, _-_, _*_, _^_, _<_, _≤_}
+use Prim.Native.Nat.{ℕ, zero, suc, _+_, _-_, _^_, _<_, _≤_}
 use mathlib.Core.Path.{_≡_, refl, sym, ap, ap₂, _∙_}
 use mathlib.Core.Bool.{Bool, true, false, cond, _&&_, and-true}
 use mathlib.Core.Logic.{by-cases}
-use mathlib.Core.List.{List, _++_, append-nil, append-assoc}
+use mathlib.Core.List.{List, _∷_, _++_, append-nil, append-assoc}
 use native.Mathlib.Numerals.{add-one}
 use native.Mathlib.Omega.{arith}
 use native.Mathlib.Decide.{ℕ-discrete}
 use lib.Dec.{eqb}
 use lib.ListN.{length, getD, take, drop, replicate, length-append, length-drop, length-replicate, take-append-drop, drop-of-length-le}
-use lib.Seq.{take-all, take-add, take-at, take-append-seam, length-take-le}
+use lib.Seq.{take-all, take-add, take-at, drop-drop, length-take-le}
 use Rattle.model.specs.Lists.{sameList}
 use Rattle.model.specs.declared.Place.the-variants.{Nowhere, At}
 use Rattle.model.proofs.Lists.{same-list, list-same, same-append}
 use Rattle.fnv.specs.Fnv.{fnv1a}
 use Rattle.fnv.proofs.Laws.{hash-below}
-use Rattle.block.specs.Bytes.{AllBytes, le, field, fields}
-use Rattle.block.specs.Blocks.{numbered, sealed, checksumRight, bodyRight, lowestFrom}
-use Rattle.block.proofs.Bytes.{length-le, length-part, same-field, field-byte, field-take, fields-take}
+use Rattle.block.specs.Bytes.{AllBytes, Sized, InWidth, le, les, packed, field, fields, zerosBetween, Each}
+use Rattle.block.specs.Blocks.{numbered, sealed, checksumRight, bodyRight, framed, lowestFrom}
+use Rattle.block.proofs.Bytes.{length-le, length-part, same-field, field-byte, fields-les}
+use Rattle.block.proofs.Packing.{total, unpacked, packed-unpacked, numberAt, numbers-read}
 
-pub fnv-below : (bs : List ℕ) → fnv1a bs < 2 ^ 32
+fnv-below : (bs : List ℕ) → fnv1a bs < 2 ^ 32
 unfolding fnv1a
 fnv-below bs = hash-below 2166136261 bs (omega arith)
 
@@ -42,7 +43,7 @@ seal-put bs new h l p q =
     rw (p, q, drop-of-length-le bs {i = 512} (omega arith)) (append-nil (take 508 bs ++ le 4 (fnv1a (take 508 bs))))
 
 -- the body's test is of the named bytes, the zeros and the number
-pub body-parts : (k n : ℕ) (named bs : List ℕ) → length named ≡ n → n ≤ 504 → 508 ≤ length bs
+body-parts : (k n : ℕ) (named bs : List ℕ) → length named ≡ n → n ≤ 504 → 508 ≤ length bs
     → bodyRight k named bs
     ≡ (sameList (take n bs) named && sameList (take (504 - n) (drop n bs)) (replicate (504 - n) 0) && sameList (take 4 (drop 504 bs)) (le 4 k))
 unfolding bodyRight numbered
@@ -60,39 +61,42 @@ body-parts k n named bs l h m =
     (same-append (first ++ rest) (named ++ zeros) number (le 4 k) (simp length-append (ap₂ _+_ named-long zeros-long)) ∙
     ap (λ (b : Bool). b && sameList number (le 4 k)) (same-append first named rest zeros named-long))
 
--- a body whose first byte is its kind
-body-kind : (k kind end : ℕ) (rest bs : List ℕ) → 1 ≤ end → end ≤ 504 → length rest ≡ end - 1 → length bs ≡ 512
-    → bodyRight k (le 1 kind ++ rest) bs
-    ≡ (sameList (take 1 bs) (le 1 kind) && sameList (take (end - 1) (drop 1 bs)) rest && sameList (take (504 - end) (drop end bs)) (replicate (504 - end) 0) && sameList (take 4 (drop 504 bs)) (le 4 k))
-body-kind k kind end rest bs o h l m =
-    let s : end ≡ 1 + (end - 1) = omega arith in
-    let split : take end bs ≡ take 1 bs ++ take (end - 1) (drop 1 bs) = ap (λ (j : ℕ). take j bs) s ∙ take-add 1 (end - 1) bs in
-    let one : length (take 1 bs) ≡ length (le 1 kind) = length-take-le 1 bs (omega arith) ∙ sym (length-le 1 kind) in
-    body-parts k end (le 1 kind ++ rest) bs (omega (arith, length-append (le 1 kind) rest, length-le 1 kind)) h (omega arith) ∙
-    rw (split, same-append (take 1 bs) (le 1 kind) (take (end - 1) (drop 1 bs)) rest one)
-
 -- what `body_right` tests
-pub body-frame : (k kind end : ℕ) (bs : List ℕ) → AllBytes bs → length bs ≡ 512 → 1 ≤ end → end ≤ 504 → kind < 2 ^ 8 → k < 2 ^ 32
-    → bodyRight k (le 1 kind ++ take (end - 1) (drop 1 bs)) bs
-    ≡ (eqb (getD bs 0 0) kind && sameList (take (504 - end) (drop end bs)) (replicate (504 - end) 0) && eqb (field bs 504 4) k)
-body-frame k kind end bs b l o h kf nf =
-    body-kind k kind end (take (end - 1) (drop 1 bs)) bs o h (length-part 1 (end - 1) bs (omega arith)) l ∙
-    rw (same-field bs 0 1 kind b (omega arith) kf, field-byte bs 0 (omega arith), list-same, same-field bs 504 4 k b (omega arith) nf, and-true)
+pub body-frame : (k kind byte1 end : ℕ) (bs : List ℕ) → AllBytes bs → length bs ≡ 512 → 2 ≤ end → end ≤ 504 → kind < 2 ^ 8 → byte1 < 2 ^ 8 → k < 2 ^ 32
+    → bodyRight k (framed kind byte1 end bs) bs
+    ≡ (eqb (getD bs 0 0) kind && eqb (getD bs 1 0) byte1 && zerosBetween bs end 504 && eqb (field bs 504 4) k)
+unfolding framed
+body-frame k kind byte1 end bs b l o h kf bf nf =
+    let free : List ℕ = take (end - 2) (drop 2 bs) in
+    let two : List ℕ = take 1 bs ++ take 1 (drop 1 bs) in
+    let given : List ℕ = le 1 kind ++ le 1 byte1 in
+    let s : end ≡ 1 + 1 + (end - 2) = omega arith in
+    let split : take end bs ≡ two ++ free = ap (λ (j : ℕ). take j bs) s ∙ take-add 2 (end - 2) bs ∙ ap (λ (r : List ℕ). r ++ free) (take-add 1 1 bs) in
+    let one : length (take 1 bs) ≡ length (le 1 kind) = length-take-le 1 bs (omega arith) ∙ sym (length-le 1 kind) in
+    let other : length (take 1 (drop 1 bs)) ≡ length (le 1 byte1) = length-part 1 1 bs (omega arith) ∙ sym (length-le 1 byte1) in
+    let both : length two ≡ length given = simp length-append (ap₂ _+_ one other) in
+    let long : length (given ++ free) ≡ end = simp (length-append, length-le, length-part 2 (end - 2) bs (omega arith)) (omega arith) in
+    body-parts k end (given ++ free) bs long h (omega arith) ∙
+    rw (
+      split,
+      same-append two given free free both,
+      same-append (take 1 bs) (le 1 kind) (take 1 (drop 1 bs)) (le 1 byte1) one,
+      same-field bs 0 1 kind b (omega arith) kf,
+      field-byte bs 0 (omega arith),
+      same-field bs 1 1 byte1 b (omega arith) bf,
+      field-byte bs 1 (omega arith),
+      list-same,
+      same-field bs 504 4 k b (omega arith) nf,
+      and-true,
+    )
 
--- a caller that has tested its own bytes is left with the frame
-pub body-rest : (k kind end : ℕ) (rest bs : List ℕ) → length bs ≡ 512 → 1 ≤ end → end ≤ 504 → length rest ≡ end - 1
-    → bodyRight k (le 1 kind ++ rest) bs
-    ≡ (sameList (take (end - 1) (drop 1 bs)) rest && bodyRight k (le 1 kind ++ take (end - 1) (drop 1 bs)) bs)
-body-rest k kind end rest bs l o h m =
-    let part : List ℕ = take (end - 1) (drop 1 bs) in
-    rw (body-kind k kind end rest bs o h m l, body-kind k kind end part bs o h (length-part 1 (end - 1) bs (omega arith)) l, list-same part)
-    (swap (sameList (take 1 bs) (le 1 kind)) (sameList part rest) _ _)
-  where
-    swap : (a b c d : Bool) → (a && b && c && d) ≡ (b && (a && true && c && d))
-    swap true true c d = refl
-    swap true false c d = refl
-    swap false true c d = refl
-    swap false false c d = refl
+-- numbers that are read from a block from byte 2 on, and what stands after them, are as they stand
+pub framed-read : (kind byte1 m : ℕ) (ws bs : List ℕ) → AllBytes bs → 2 + total ws + m ≤ length bs
+    → packed ((1, kind) ∷ (1, byte1) ∷ unpacked bs 2 ws) ++ take m (drop (2 + total ws) bs) ≡ framed kind byte1 (2 + total ws + m) bs
+unfolding framed packed le
+framed-read kind byte1 m ws bs b h =
+    let s : 2 + total ws + m - 2 ≡ total ws + m = omega arith in
+    rw (s, take-add (total ws) m (drop 2 bs), drop-drop, packed-unpacked bs 2 ws b (omega arith))
 
 -- a whole block
 
@@ -116,17 +120,24 @@ pub body-sealed : (k : ℕ) (named : List ℕ) → length named ≤ 504 → body
 unfolding bodyRight
 body-sealed k named h = rw (take-sealed (numbered k named) (length-numbered k named h)) (list-same (numbered k named))
 
-pub block-named : (k : ℕ) (named : List ℕ) → take (length named) (sealed (numbered k named)) ≡ named
+-- what follows the named bytes of a block
+abbrev pub afterNamed : ℕ → List ℕ → List ℕ
+afterNamed k named = replicate (504 - length named) 0 ++ (le 4 k ++ le 4 (fnv1a (numbered k named)))
+
+pub sealed-named : (k : ℕ) (named : List ℕ) → sealed (numbered k named) ≡ named ++ afterNamed k named
 unfolding sealed numbered
-block-named k named = simp append-assoc (take-append-seam named _)
+sealed-named k named = simp append-assoc
 
--- the numbers of a block are those of its named bytes
+-- a block whose named bytes are numbers and then a list of numbers of one width reads back
 
-pub field-named : (k : ℕ) (named : List ℕ) (i w : ℕ) → i + w ≤ length named → field (sealed (numbered k named)) i w ≡ field named i w
-field-named k named i w h = sym (field-take (sealed (numbered k named)) (length named) i w h) ∙ ap (λ (bs : List ℕ). field bs i w) (block-named k named)
+module _ (k : ℕ) (ss : List Sized) (w : ℕ) (ns : List ℕ) where
+  pub numbers-back : Each InWidth ss → let bs = sealed (numbered k (packed ss ++ les w ns)) in field bs ≡ (λ p v. numberAt 0 ss p v (field bs p v))
+  numbers-back f =
+      numbers-read _ (les w ns ++ afterNamed k (packed ss ++ les w ns)) ss (sealed-named k (packed ss ++ les w ns) ∙ append-assoc (packed ss) (les w ns) _) f
 
-pub fields-named : (k : ℕ) (named : List ℕ) (i w n : ℕ) → i + w * n ≤ length named → fields (sealed (numbered k named)) i w n ≡ fields named i w n
-fields-named k named i w n h = sym (fields-take (sealed (numbered k named)) (length named) i w n h) ∙ ap (λ (bs : List ℕ). fields bs i w n) (block-named k named)
+  pub list-back : (at : ℕ) → length (packed ss) ≡ at → Each (λ m. m < 256 ^ w) ns
+      → fields (sealed (numbered k (packed ss ++ les w ns))) at w (length ns) ≡ ns
+  list-back at l f = rw sealed-named (fields-les (packed ss) (afterNamed k (packed ss ++ les w ns)) at w ns l f)
 
 -- the two tests together: the block is the one with these named bytes
 pub block-is : (k : ℕ) (named bs : List ℕ) → checksumRight bs ≡ true → bodyRight k named bs ≡ true → bs ≡ sealed (numbered k named)

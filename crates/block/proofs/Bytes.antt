@@ -2,7 +2,7 @@
 -- Assumes nothing.
 use Prim.Native.Nat.{ℕ, zero, suc, _+_, _-_, _*_, _/_, _%_, _^_, _<_, _≤_}
 use mathlib.Core.Path.{_≡_, refl, sym, ap, ap₂, _∙_}
-use mathlib.Core.Bool.{Bool, _&&_}
+use mathlib.Core.Bool.{_&&_}
 use mathlib.Core.List.{List, [], _∷_, _++_, append-assoc}
 use native.Mathlib.Nat.{zero-add, add-zero, suc-add, add-assoc, mul-zero, mul-suc, mul-assoc, mul-comm, pow-suc, div-one, div-div-eq-div-mul}
 use native.Mathlib.Omega.{arith}
@@ -10,10 +10,10 @@ use lib.Arith.{mod-mul}
 use lib.Dec.{eqb}
 use lib.ListN.{length, getD, take, drop, set, replicate, length-append, length-take, length-drop, length-replicate, replicate-append-replicate}
 use lib.Pow.{pow-add}
-use lib.Seq.{take-length, take-take, take-add, take-at, drop-drop, drop-cons, drop-at, length-take-le, getD-take, getD-drop, take-suc-set, drop-set-lt, append-snoc}
+use lib.Seq.{take-take, take-add, take-at, drop-drop, drop-cons, drop-at, length-take-le, getD-take, getD-drop, take-suc-set, drop-set-lt, append-snoc}
 use Rattle.model.specs.Lists.{sameList}
 use Rattle.model.proofs.Lists.{same-eqb, same-append}
-use Rattle.block.specs.Bytes.{AllBytes, le, les, value, field, fields}
+use Rattle.block.specs.Bytes.{AllBytes, le, les, value, field, fields, zerosBetween, Each}
 
 pow-pos : (w : ℕ) → 0 < 256 ^ w
 pow-pos zero = omega arith
@@ -78,9 +78,6 @@ value-take-below zero bs b = omega arith
 value-take-below (suc w) [] b = pow-pos (suc w)
 value-take-below (suc w) (x ∷ bs) b = rw pow-suc (omega (arith, b 0 (omega arith), value-take-below w bs (bytes-tail x bs b)))
 
-pub value-below : (bs : List ℕ) → AllBytes bs → value bs < 256 ^ length bs
-value-below bs b = rw take-length at (value-take-below (length bs) bs b)
-
 pub field-below : (bs : List ℕ) (at w : ℕ) → AllBytes bs → field bs at w < 2 ^ (8 * w)
 unfolding field
 field-below bs at w b = rw (← pow-bytes) (value-take-below w (drop at bs) (bytes-drop at bs b))
@@ -132,16 +129,16 @@ pub field-le : (xs ys : List ℕ) (at w n : ℕ) → length xs ≡ at → n < 25
 unfolding field
 field-le xs ys at w n l h = rw (append-assoc, drop-at xs (le w n ++ ys) at l, take-at (le w n) ys w (length-le w n)) (value-le w n h)
 
-pub fields-les : (xs ys : List ℕ) (at w : ℕ) (ns : List ℕ) → length xs ≡ at → ((j : ℕ) → j < length ns → getD ns j 0 < 256 ^ w)
+pub fields-les : (xs ys : List ℕ) (at w : ℕ) (ns : List ℕ) → length xs ≡ at → Each (λ m. m < 256 ^ w) ns
     → fields (xs ++ les w ns ++ ys) at w (length ns) ≡ ns
-unfolding les fields
+unfolding les fields Each
 fields-les xs ys at w [] l h = refl
 fields-les xs ys at w (n ∷ ns) l h =
     let first : xs ++ (le w n ++ les w ns) ++ ys ≡ xs ++ le w n ++ (les w ns ++ ys) = simp append-assoc in
     let later : xs ++ (le w n ++ les w ns) ++ ys ≡ xs ++ le w n ++ les w ns ++ ys = simp append-assoc in
     let next : length (xs ++ le w n) ≡ at + w = omega (arith, length-append xs (le w n), length-le w n) in
-    ap₂ _∷_ (ap (λ (bs : List ℕ). field bs at w) first ∙ field-le xs (les w ns ++ ys) at w n l (h 0 (omega arith)))
-    (ap (λ (bs : List ℕ). fields bs (at + w) w (length ns)) later ∙ fields-les (xs ++ le w n) ys (at + w) w ns next (λ j k. h (suc j) (omega arith)))
+    ap₂ _∷_ (ap (λ (bs : List ℕ). field bs at w) first ∙ field-le xs (les w ns ++ ys) at w n l (h .0))
+    (ap (λ (bs : List ℕ). fields bs (at + w) w (length ns)) later ∙ fields-les (xs ++ le w n) ys (at + w) w ns next (h .1))
 
 pub getD-fields : (bs : List ℕ) (at w n j : ℕ) → j < n → getD (fields bs at w n) j 0 ≡ field bs (at + w * j) w
 unfolding fields
@@ -151,7 +148,7 @@ getD-fields bs at w (suc n) (suc j) h =
     let e : at + w + w * j ≡ at + w * suc j = omega (arith, mul-suc w j) in
     getD-fields bs (at + w) w n j (omega arith) ∙ ap (λ (k : ℕ). field bs k w) e
 
-part-take : (at w m : ℕ) (bs : List ℕ) → at + w ≤ m → take w (drop at (take m bs)) ≡ take w (drop at bs)
+pub part-take : (at w m : ℕ) (bs : List ℕ) → at + w ≤ m → take w (drop at (take m bs)) ≡ take w (drop at bs)
 part-take zero w m bs h = take-take w m bs (omega arith)
 part-take (suc at) w zero bs h = absurd (omega arith)
 part-take (suc at) w (suc m) [] h = refl
@@ -165,24 +162,9 @@ pub field-drop : (bs : List ℕ) (m at w : ℕ) → field (drop m bs) at w ≡ f
 unfolding field
 field-drop bs m at w = rw drop-drop
 
-pub fields-take : (bs : List ℕ) (m at w n : ℕ) → at + w * n ≤ m → fields (take m bs) at w n ≡ fields bs at w n
-unfolding fields
-fields-take bs m at w zero h = refl
-fields-take bs m at w (suc n) h =
-    let s : w * suc n ≡ w + w * n = omega (arith, mul-suc w n) in
-    ap₂ _∷_ (field-take bs m at w (omega arith)) (fields-take bs m (at + w) w n (omega arith))
-
-pub fields-drop : (bs : List ℕ) (m at w n : ℕ) → fields (drop m bs) at w n ≡ fields bs (m + at) w n
-unfolding fields
-fields-drop bs m at w zero = refl
-fields-drop bs m at w (suc n) = rw add-assoc (ap₂ _∷_ (field-drop bs m at w) (fields-drop bs m (at + w) w n))
-
 -- a number in a part of a file, in place
 pub field-part : (bs : List ℕ) (from m at w : ℕ) → at + w ≤ m → field (take m (drop from bs)) at w ≡ field bs (from + at) w
 field-part bs from m at w h = field-take (drop from bs) m at w h ∙ field-drop bs from at w
-
-pub fields-part : (bs : List ℕ) (from m at w n : ℕ) → at + w * n ≤ m → fields (take m (drop from bs)) at w n ≡ fields bs (from + at) w n
-fields-part bs from m at w n h = fields-take (drop from bs) m at w n h ∙ fields-drop bs from at w n
 
 -- comparing
 
@@ -211,17 +193,13 @@ put-halves w bs mid new at v h p q =
 
 -- zeros
 
--- the bytes from i up to to are all zero
-abbrev pub zeros : List ℕ → ℕ → ℕ → Bool
-zeros bs i to = sameList (take (to - i) (drop i bs)) (replicate (to - i) 0)
-
 zeros-le : (w : ℕ) → replicate w 0 ≡ le w 0
 unfolding le
 zeros-le zero = refl
 zeros-le (suc w) = ap (_∷_ 0) (zeros-le w)
 
 -- the next w bytes are one number, which is tested first
-pub zeros-step : (w : ℕ) (bs : List ℕ) (i to : ℕ) → AllBytes bs → i + w ≤ to → to ≤ length bs → zeros bs i to ≡ (eqb (field bs i w) 0 && zeros bs (i + w) to)
+pub zeros-step : (w : ℕ) (bs : List ℕ) (i to : ℕ) → AllBytes bs → i + w ≤ to → to ≤ length bs → zerosBetween bs i to ≡ (eqb (field bs i w) 0 && zerosBetween bs (i + w) to)
 zeros-step w bs i to b h k =
     let s : to - i ≡ w + (to - (i + w)) = omega arith in
     let first : sameList (take w (drop i bs)) (replicate w 0) ≡ eqb (field bs i w) 0 =

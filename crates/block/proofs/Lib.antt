@@ -1,2 +1,4 @@
 pub mod Bytes
+pub mod Each
+pub mod Packing
 pub mod Blocks

@@ -3,7 +3,7 @@
 use Prim.Native.Nat.{ℕ, zero, suc, _-_}
 use mathlib.Core.Bool.{Bool, cond}
 use mathlib.Core.List.{List, _++_}
-use lib.ListN.{length, take, replicate}
+use lib.ListN.{length, take, drop, replicate}
 use Rattle.model.specs.Lists.{sameList}
 use Rattle.model.specs.declared.Place.{Place}
 use Rattle.model.specs.declared.Place.the-variants.{Nowhere, At}
@@ -25,6 +25,10 @@ checksumRight bs = sameList bs (sealed (take 508 bs))
 -- bytes 0 to 507 are those of block k with these named bytes: no byte without a named use is other than zero
 unfoldable pub bodyRight : ℕ → List ℕ → List ℕ → Bool
 bodyRight k named bs = sameList (take 508 bs) (numbered k named)
+
+-- named bytes up to end: the first two are given, the kind and byte 1, and the others are free, so as they stand in the block
+unfoldable pub framed : ℕ → ℕ → ℕ → List ℕ → List ℕ
+framed kind byte1 end bs = le 1 kind ++ le 1 byte1 ++ take (end - 2) (drop 2 bs)
 
 -- the lowest k, of the n from a, at which f does not hold
 unfoldable pub lowestFrom : (ℕ → Bool) → ℕ → ℕ → Place

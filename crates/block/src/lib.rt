@@ -4,10 +4,9 @@ ghost use mathlib.Core.Bool.{_&&_};
 ghost use mathlib.Core.List.{_++_};
 ghost use Prim.Native.Nat.{_+_, _-_, _≤_};
 ghost use lib.ListN.{length, take, drop, replicate};
-ghost use Rattle.model.specs.Lists.{sameList};
 ghost use Rattle.fnv.specs.Fnv.{fnv1a};
-ghost use Rattle.block.specs.Bytes.{le, field};
-ghost use Rattle.block.specs.Blocks.{sealed, checksumRight, bodyRight};
+ghost use Rattle.block.specs.Bytes.{le, field, zerosBetween};
+ghost use Rattle.block.specs.Blocks.{sealed, checksumRight, bodyRight, framed};
 
 // The number in two bytes.
 pub fn u16_at(bytes: &[u8], at: usize) -> u16
@@ -35,16 +34,16 @@ pub fn u64_at(bytes: &[u8], at: usize) -> u64
     u32_at(bytes, at) as u64 + 4294967296 * (u32_at(bytes, at + 4) as u64)
 }
 
-// From where on the bytes up to to are still to be tested for zeros: past the words of eight zeros from from on.
-fn past_zero_words(bytes: &[u8], from: usize, to: usize) -> usize
-    requires { ⌜ to ≤ length (now bytes) ⌝ }
-    ensures { λ r. ⌜ (let bs = now (bytes .entry) in sameList (take (to - r) (drop r bs)) (replicate (to - r) 0) ≡ sameList (take (to - from) (drop from bs)) (replicate (to - from) 0)) ⌝ }
+// Steps over words of eight zeros: the bytes from start up to the answer are zeros, and those from it up to end are left to test.
+fn past_zero_words(bytes: &[u8], start: usize, end: usize) -> usize
+    requires { ⌜ end ≤ length (now bytes) ⌝ }
+    ensures { λ r. ⌜ zerosBetween (now (bytes .entry)) r end ≡ zerosBetween (now (bytes .entry)) start end ⌝ }
 {
-    if to < 8 {
-        return from;
+    if end < 8 {
+        return start;
     }
-    let last = to - 8;
-    let mut i = from;
+    let last = end - 8;
+    let mut i = start;
     while i <= last {
         if u64_at(bytes, i) != 0 {
             return i;
@@ -54,13 +53,13 @@ fn past_zero_words(bytes: &[u8], from: usize, to: usize) -> usize
     i
 }
 
-// Whether the bytes from from up to to are all zero.
-pub fn zero_between(bytes: &[u8], from: usize, to: usize) -> bool
-    requires { ⌜ to ≤ length (now bytes) ⌝ }
-    ensures { λ r. ⌜ r ≡ sameList (take (to - from) (drop from (now (bytes .entry)))) (replicate (to - from) 0) ⌝ }
+// Whether the bytes from start up to end are all zero; the byte at end is not looked at.
+pub fn zero_between(bytes: &[u8], start: usize, end: usize) -> bool
+    requires { ⌜ end ≤ length (now bytes) ⌝ }
+    ensures { λ r. ⌜ r ≡ zerosBetween (now (bytes .entry)) start end ⌝ }
 {
-    let mut i = past_zero_words(bytes, from, to);
-    while i < to {
+    let mut i = past_zero_words(bytes, start, end);
+    while i < end {
         if bytes[i] != 0 {
             return false;
         }
@@ -103,13 +102,16 @@ pub fn four_checksums_right(a: &[u8], b: &[u8], c: &[u8], d: &[u8]) -> bool
     checksum_is(d, hashes.d)
 }
 
-// Whether a block has this kind and number, and zeros from end on; bytes 1 to end - 1 are free.
-pub fn body_right(block: &[u8], number: u32, kind: u8, end: usize) -> bool
+// Whether a block has this number, kind and byte 1, and zeros from end on; the bytes from 2 up to end are free.
+pub fn body_right(block: &[u8], number: u32, kind: u8, byte_1: u8, end: usize) -> bool
     requires { ⌜ length (now block) ≡ 512 ⌝ }
-    requires { ⌜ (1 ≤ end) × (end ≤ 504) ⌝ }
-    ensures { λ r. ⌜ r ≡ bodyRight number (le 1 kind ++ take (end - 1) (drop 1 (now (block .entry)))) (now (block .entry)) ⌝ }
+    requires { ⌜ (2 ≤ end) × (end ≤ 504) ⌝ }
+    ensures { λ r. ⌜ r ≡ bodyRight number (framed kind byte_1 end (now (block .entry))) (now (block .entry)) ⌝ }
 {
     if block[0] != kind {
+        return false;
+    }
+    if block[1] != byte_1 {
         return false;
     }
     if !zero_between(block, end, 504) {
@@ -145,13 +147,13 @@ pub fn put_u64(bytes: &mut [u8], at: usize, v: u64)
     put_u32(bytes, at + 4, (v / 4294967296) as u32);
 }
 
-// Stores zeros from from up to to.
-pub fn clear_between(bytes: &mut [u8], from: usize, to: usize)
-    requires { ⌜ (from ≤ to) × (to ≤ length (now bytes)) ⌝ }
-    ensures { λ _. ⌜ now (bytes .exit) ≡ take from (now (bytes .entry)) ++ replicate (to - from) 0 ++ drop to (now (bytes .entry)) ⌝ }
+// Stores zeros from start up to end; the byte at end stays what it was.
+pub fn clear_between(bytes: &mut [u8], start: usize, end: usize)
+    requires { ⌜ (start ≤ end) × (end ≤ length (now bytes)) ⌝ }
+    ensures { λ _. ⌜ now (bytes .exit) ≡ take start (now (bytes .entry)) ++ replicate (end - start) 0 ++ drop end (now (bytes .entry)) ⌝ }
 {
-    let mut i = from;
-    while i < to {
+    let mut i = start;
+    while i < end {
         bytes[i] = 0;
         i += 1;
     }

@@ -1,13 +1,13 @@
 -- Storing and reading undo one another: an accepted plan reads back whole, and a readable block's plan is stored as the same bytes.
 -- Assumes nothing.
 use Prim.Native.Nat.{ℕ, _+_, _-_, _*_, _^_, _<_, _≤_}
-use mathlib.Core.Path.{_≡_, refl, sym, ap, _∙_}
+use mathlib.Core.Path.{_≡_, refl, sym}
 use mathlib.Core.Bool.{Bool, true, false, cond}
-use mathlib.Core.List.{List, [], _++_, append-nil}
+use mathlib.Core.List.{List, _++_}
 use native.Mathlib.Omega.{arith}
 use lib.Dec.{eqb}
-use lib.ListN.{length, getD, take, drop, replicate, length-append, length-drop, length-replicate, getD-replicate, take-append-drop}
-use lib.Seq.{take-at, drop-at, take-take, getD-take, getD-drop, length-take-le, ext-getD}
+use lib.ListN.{length, take, drop, replicate, length-drop, length-replicate, getD-replicate, take-append-drop}
+use lib.Seq.{drop-at, getD-take, getD-drop, length-take-le, ext-getD}
 use mir.Syntax.{w16}
 use mir.Val.{Fits}
 use borrow.Author.Tests.{eqb-true, eq-eqb, le-ltb}
@@ -17,24 +17,16 @@ use Rattle.model.specs.declared.Refusal.the-variants.{Length, Checksum, WrongBl
 use Rattle.model.specs.declared.Verdict.the-variants.{Accepted, Refused}
 use Rattle.model.proofs.Verdicts.{never-both, is-accepted}
 use Rattle.model.proofs.Lists.{and-split}
-use Rattle.block.specs.Bytes.{le, les, field, fields}
+use Rattle.block.specs.Bytes.{le, packed, field, fields, Each}
 use Rattle.block.specs.Blocks.{numbered, checksumRight, bodyRight}
-use Rattle.block.proofs.Bytes.{length-le, field-le, field-take, length-fields, fields-les, fields-take}
-use Rattle.block.proofs.Blocks.{length-numbered, length-sealed, checksum-sealed, body-sealed, block-named, block-is, lowest-nowhere}
+use Rattle.block.proofs.Bytes.{length-fields}
+use Rattle.block.proofs.Each.{each-of}
+use Rattle.block.proofs.Packing.{numberAt}
+use Rattle.block.proofs.Blocks.{length-numbered, length-sealed, numbers-back, list-back, checksum-sealed, body-sealed, block-is, lowest-nowhere}
 use Rattle.planvalue.specs.Values.{entryRight, planVerdict}
 use Rattle.planvalue.proofs.Verdicts.{accepted-parts, count-accepted}
-use Rattle.planblock.specs.Plans.{planHead, planNamed, planBytes, planOf, planRight, readVerdict, storeVerdict, stored, PlanFits}
-use Rattle.planblock.proofs.Storing.{length-head, length-named}
-
--- the last number of what a list begins with is read, and the rest is what it begins with
-last-read : (bs xs : List ℕ) (from w v : ℕ) → take (from + w) bs ≡ xs ++ le w v → from + w ≤ length bs → v < 256 ^ w
-    → (field bs from w ≡ v) × (take from bs ≡ xs)
-last-read bs xs from w v p l h =
-    let n : length xs ≡ from = omega (arith, ap length p, length-take-le (from + w) bs l, length-append xs (le w v), length-le w v) in (
-      sym (field-take bs (from + w) from w (omega arith)) ∙ ap (λ (r : List ℕ). field r from w) (p ∙ sym (append-nil (xs ++ le w v))) ∙
-          field-le xs [] from w v n h,
-      sym (take-take from (from + w) bs (omega arith)) ∙ ap (take from) p ∙ take-at xs (le w v) from n,
-    )
+use Rattle.planblock.specs.Plans.{planNumbers, planNamed, planBytes, planOf, planRight, readVerdict, storeVerdict, stored, PlanFits}
+use Rattle.planblock.proofs.Storing.{length-named}
 
 module _ (p : Plan) (f : PlanFits p) (e : planVerdict p ≡ Accepted) where
   small : p .count ≤ 63
@@ -50,17 +42,6 @@ module _ (p : Plan) (f : PlanFits p) (e : planVerdict p ≡ Accepted) where
   unfolding planBytes
   long = length-sealed (numbered 0 (planNamed p)) body-long
 
-  -- the block begins with the named bytes
-  begins : take (20 + 2 * p .count) (planBytes p) ≡ planNamed p
-  unfolding planBytes
-  begins = rw (← named-long) (block-named 0 (planNamed p))
-
-  begins-head : take 20 (planBytes p) ≡ planHead p
-  unfolding planNamed
-  begins-head =
-      sym (take-take 20 (20 + 2 * p .count) (planBytes p) (omega arith)) ∙ ap (take 20) begins ∙
-      take-at (planHead p) (les 2 (take (p .count) (p .points))) 20 (length-head p)
-
   -- the entries from the count on are zero
   zeros : drop (p .count) (p .points) ≡ replicate (64 - p .count) 0
   unfolding entryRight
@@ -71,29 +52,24 @@ module _ (p : Plan) (f : PlanFits p) (e : planVerdict p ≡ Accepted) where
       let right = lowest-nowhere (entryRight p) 0 64 (accepted-parts p e .1) (p .count + i) (omega arith) (omega arith) in
       rw (getD-drop, getD-replicate {A = ℕ} (64 - p .count) i 0 0 (omega arith)) (eqb-true _ 0 (rw (le-ltb (p .count + i) (p .count) (omega arith)) at right)))
 
+  numbers-read : field (planBytes p) ≡ (λ i v. numberAt 0 (planNumbers p) i v (field (planBytes p) i v))
+  unfolding planBytes planNamed planNumbers Each
+  numbers-read =
+      numbers-back 0 (planNumbers p) 2 (take (p .count) (p .points))
+      (omega arith, (omega arith, (f .blocks, (f .count, (f .lines, (f .cost, (f .id, tt)))))))
+
   points-read : fields (planBytes p) 20 2 (p .count) ++ replicate (64 - p .count) 0 ≡ p .points
-  unfolding planNamed
+  unfolding planBytes planNamed planNumbers packed le
   points-read =
       let ns : List ℕ = take (p .count) (p .points) in
       let n : length ns ≡ p .count = length-take-le (p .count) (p .points) (omega (arith, f .entries, small)) in
-      let below : (j : ℕ) → j < length ns → getD ns j 0 < 256 ^ 2 = λ j h. rw (getD-take (p .count) (p .points) j 0 (omega arith)) (f .points j) in
-      let stored = rw (append-nil, n) at (fields-les (planHead p) [] 20 2 ns (length-head p) below) in
-      let read = fields-take (planBytes p) (20 + 2 * p .count) 20 2 (p .count) (omega arith) in
-      rw (← read, begins, stored, ← zeros) (take-append-drop (p .count) (p .points))
+      let below : Each (λ m. m < 256 ^ 2) ns = each-of (λ m. m < 256 ^ 2) ns 0 (λ j h. rw (getD-take (p .count) (p .points) j 0 (omega arith)) (f .points j)) in
+      let stored = rw n at (list-back 0 (planNumbers p) 2 ns 20 refl below) in
+      rw (stored, ← zeros) (take-append-drop (p .count) (p .points))
 
   plan-read : planOf (planBytes p) ≡ p
-  unfolding planOf planHead
-  plan-read =
-      let x₂ : List ℕ = le 1 4 ++ le 1 0 in
-      let x₄ : List ℕ = x₂ ++ le 2 (p .blocks) in
-      let x₆ : List ℕ = x₄ ++ le 2 (p .count) in
-      let x₈ : List ℕ = x₆ ++ le 2 (p .lines) in
-      let id = last-read (planBytes p) (x₈ ++ le 8 (p .cost)) 16 4 (p .id) begins-head (omega (arith, long)) (f .id) in
-      let cost = last-read (planBytes p) x₈ 8 8 (p .cost) (id .1) (omega (arith, long)) (f .cost) in
-      let lines = last-read (planBytes p) x₆ 6 2 (p .lines) (cost .1) (omega (arith, long)) (f .lines) in
-      let count = last-read (planBytes p) x₄ 4 2 (p .count) (lines .1) (omega (arith, long)) (f .count) in
-      let blocks = last-read (planBytes p) x₂ 2 2 (p .blocks) (count .1) (omega (arith, long)) (f .blocks) in
-      rw (count .0, points-read, id .0, cost .0, lines .0, blocks .0)
+  unfolding planOf planNumbers numberAt
+  plan-read = rw (numbers-read, points-read)
 
   -- what is stored reads back
   pub read-back : (readVerdict (planBytes p) ≡ Accepted) × (planOf (planBytes p) ≡ p)

@@ -7,10 +7,10 @@ use native.Mathlib.Omega.{arith}
 use lib.ListN.{length, getD, take, drop, replicate, length-append, length-replicate}
 use lib.Seq.{take-at, take-suc, length-take-le}
 use Rattle.model.specs.declared.Plan.{Plan}
-use Rattle.block.specs.Bytes.{le, les}
+use Rattle.block.specs.Bytes.{le, les, packed}
 use Rattle.block.specs.Blocks.{numbered}
 use Rattle.block.proofs.Bytes.{length-le, length-les}
-use Rattle.planblock.specs.Plans.{planHead, planNamed}
+use Rattle.planblock.specs.Plans.{planNumbers, planNamed}
 
 -- the first n bytes are these
 abbrev pub Begins : ℕ → List ℕ → List ℕ → Type 0
@@ -30,8 +30,8 @@ begins-le n w v bs new xs b p = begins-more n (n + w) bs new xs (le w v) b (rw l
 pub head-stored : (p : Plan) (out kind blocks count lines cost id : List ℕ) → kind ≡ [] ++ le 2 4 ++ drop 2 out
     → blocks ≡ take 2 kind ++ le 2 (p .blocks) ++ drop 4 kind → count ≡ take 4 blocks ++ le 2 (p .count) ++ drop 6 blocks
     → lines ≡ take 6 count ++ le 2 (p .lines) ++ drop 8 count → cost ≡ take 8 lines ++ le 8 (p .cost) ++ drop 16 lines
-    → id ≡ take 16 cost ++ le 4 (p .id) ++ drop 20 cost → take 20 id ≡ planHead p
-unfolding planHead le
+    → id ≡ take 16 cost ++ le 4 (p .id) ++ drop 20 cost → take 20 id ≡ packed (planNumbers p)
+unfolding planNumbers packed le
 head-stored p out kind blocks count lines cost id p₁ p₂ p₃ p₄ p₅ p₆ =
     let b₁ = begins-le 0 2 4 out kind [] (refl, refl) p₁ in
     let b₂ = begins-le 2 2 (p .blocks) kind blocks _ b₁ p₂ in
@@ -58,16 +58,16 @@ numbers-more w at ns bs new xs i h b p =
     rw (take-suc ns i 0 h, les-snoc, append-assoc) in
     rw (← last) (begins-le at w (getD ns i 0) bs new (xs ++ les w (take i ns)) b p)
 
-pub length-head : (p : Plan) → length (planHead p) ≡ 20
-unfolding planHead
-length-head p = simp (length-append, length-le)
+length-numbers : (p : Plan) → length (packed (planNumbers p)) ≡ 20
+unfolding planNumbers packed le
+length-numbers p = refl
 
 pub length-named : (p : Plan) → length (p .points) ≡ 64 → p .count ≤ 63 → length (planNamed p) ≡ 20 + 2 * p .count
 unfolding planNamed
-length-named p l h = simp (length-append, length-head, length-les, length-take-le (p .count) (p .points) (omega arith))
+length-named p l h = simp (length-append, length-numbers, length-les, length-take-le (p .count) (p .points) (omega arith))
 
 -- what `put_body` stores
-pub body-stored : (p : Plan) (head points zeros number : List ℕ) → length (p .points) ≡ 64 → p .count ≤ 63 → take 20 head ≡ planHead p
+pub body-stored : (p : Plan) (head points zeros number : List ℕ) → length (p .points) ≡ 64 → p .count ≤ 63 → take 20 head ≡ packed (planNumbers p)
     → take (20 + 2 * p .count) points ≡ take 20 head ++ les 2 (take (p .count) (p .points))
     → zeros ≡ take (20 + 2 * p .count) points ++ replicate (504 - (20 + 2 * p .count)) 0 ++ drop 504 points
     → number ≡ take 504 zeros ++ le 4 0 ++ drop 508 zeros → take 508 number ≡ numbered 0 (planNamed p)

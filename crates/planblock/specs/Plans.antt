@@ -3,7 +3,7 @@
 use Prim.Native.Nat.{ℕ, _-_, _^_, _<_}
 use mathlib.Core.Path.{_≡_}
 use mathlib.Core.Bool.{Bool, cond, _&&_}
-use mathlib.Core.List.{List, _++_}
+use mathlib.Core.List.{List, [], _∷_, _++_}
 use lib.Dec.{eqb}
 use lib.ListN.{length, getD, take, replicate}
 use Rattle.model.specs.Answers.{accepted, onAccepted}
@@ -11,17 +11,17 @@ use Rattle.model.specs.declared.Plan.{Plan}
 use Rattle.model.specs.declared.Refusal.the-variants.{Length, Checksum, WrongBlock, Output}
 use Rattle.model.specs.declared.Verdict.{Verdict}
 use Rattle.model.specs.declared.Verdict.the-variants.{Accepted, Refused}
-use Rattle.block.specs.Bytes.{le, les, field, fields}
+use Rattle.block.specs.Bytes.{Sized, packed, les, field, fields}
 use Rattle.block.specs.Blocks.{numbered, sealed, checksumRight, bodyRight}
 use Rattle.planvalue.specs.Values.{planVerdict}
 
--- writing: what stands before the points, in a block of kind 4
-unfoldable pub planHead : Plan → List ℕ
-planHead p = le 1 4 ++ le 1 0 ++ le 2 (p .blocks) ++ le 2 (p .count) ++ le 2 (p .lines) ++ le 8 (p .cost) ++ le 4 (p .id)
+-- writing: the numbers before the points, each behind its width: kind 4, a zero, N, the count, lines, cost and id
+unfoldable pub planNumbers : Plan → List Sized
+planNumbers p = (1, 4) ∷ (1, 0) ∷ (2, p .blocks) ∷ (2, p .count) ∷ (2, p .lines) ∷ (8, p .cost) ∷ (4, p .id) ∷ []
 
 -- a plan block's named bytes
 unfoldable pub planNamed : Plan → List ℕ
-planNamed p = planHead p ++ les 2 (take (p .count) (p .points))
+planNamed p = packed (planNumbers p) ++ les 2 (take (p .count) (p .points))
 
 -- the 512 bytes of a plan, in a block numbered 0
 unfoldable pub planBytes : Plan → List ℕ

@@ -1,17 +1,17 @@
 // Plan blocks: a plan is stored in one block of 512 bytes, and read back.
-use model::Plan;
-use model::Refusal;
-use model::Verdict;
 ghost use mathlib.Core.Path.{_≡_};
 ghost use mathlib.Core.List.{_++_};
 ghost use Prim.Native.Nat.{_+_, _-_, _*_, _≤_};
 ghost use lib.ListN.{length, take, replicate};
 ghost use Rattle.model.specs.Answers.{onAccepted};
 ghost use Rattle.model.specs.Planning.{noPlan};
-ghost use Rattle.block.specs.Bytes.{les, field, fields};
-ghost use Rattle.block.specs.Blocks.{numbered, bodyRight};
+ghost use Rattle.block.specs.Bytes.{packed, les, field, fields};
+ghost use Rattle.block.specs.Blocks.{numbered};
 ghost use Rattle.planvalue.specs.Values.{planVerdict};
-ghost use Rattle.planblock.specs.Plans.{planHead, planNamed, planBytes, planOf, planRight, readVerdict, storeVerdict, stored};
+ghost use Rattle.planblock.specs.Plans.{planNumbers, planNamed, planBytes, planOf, planRight, readVerdict, storeVerdict, stored};
+use model::Plan;
+use model::Refusal;
+use model::Verdict;
 
 // What reading answers: the plan is all zeros where the verdict is a refusal.
 pub struct PlanRead {
@@ -19,10 +19,10 @@ pub struct PlanRead {
     pub plan: Plan,
 }
 
-// Stores all that stands before the points: bytes 0 to 19. Byte 0 is the kind, 4, and byte 1 zero.
+// Stores the numbers before the points. The first two bytes are the kind, 4, and a zero.
 fn put_head(plan: Plan, out: &mut [u8])
     requires { ⌜ length (now out) ≡ 512 ⌝ }
-    ensures { λ _. ⌜ take 20 (now (out .exit)) ≡ planHead plan ⌝ }
+    ensures { λ _. ⌜ take 20 (now (out .exit)) ≡ packed (planNumbers plan) ⌝ }
 {
     block::put_u16(out, 0, 4);
     block::put_u16(out, 2, plan.blocks);
@@ -136,19 +136,6 @@ fn plan_of(bytes: &[u8]) -> Plan
     }
 }
 
-// Whether a block has a plan's kind and number, and zeros in byte 1 and after the points.
-fn frame_right(bytes: &[u8], count: usize) -> bool
-    requires { ⌜ length (now bytes) ≡ 512 ⌝ }
-    requires { ⌜ count ≡ field (now bytes) 4 2 ⌝ }
-    requires { ⌜ count ≤ 63 ⌝ }
-    ensures { λ r. ⌜ r ≡ bodyRight 0 (planNamed (planOf (now (bytes .entry)))) (now (bytes .entry)) ⌝ }
-{
-    if bytes[1] != 0 {
-        return false;
-    }
-    block::body_right(bytes, 0, 4, 20 + 2 * count)
-}
-
 // A refused read.
 fn refused(refusal: Refusal) -> PlanRead
     ensures { λ r. ⌜ (r .verdict ≡ Verdict.Refused refusal) × (r .plan ≡ noPlan) ⌝ }
@@ -175,7 +162,7 @@ fn plan_right(bytes: &[u8], plan: Plan) -> bool
 {
     let verdict = planvalue::check(plan);
     match verdict {
-        Verdict::Accepted => frame_right(bytes, plan.count as usize),
+        Verdict::Accepted => block::body_right(bytes, 0, 4, 0, 20 + 2 * plan.count as usize),
         Verdict::Refused(_) => false,
     }
 }

@@ -26,6 +26,10 @@ entryRight p i =
 unfoldable pub planInRange : Plan → Bool
 planInRange p = leb 1 (p .blocks) && leb (p .blocks) 64 && leb (p .count) 63
 
--- can a plan be stored: 7 at 0 for N or the count, then 7 at the lowest wrong entry
+-- 7 at the lowest wrong entry
+abbrev pub entriesVerdict : Plan → Verdict
+entriesVerdict p = refusedAt (lowestFrom (entryRight p) 0 64) Argument Accepted
+
+-- can a plan be stored: 7 at 0 for N or the count, then for the entries
 unfoldable pub planVerdict : Plan → Verdict
-planVerdict p = cond (planInRange p) (refusedAt (lowestFrom (entryRight p) 0 64) Argument Accepted) (Refused (Argument 0))
+planVerdict p = cond (planInRange p) (entriesVerdict p) (Refused (Argument 0))

@@ -1,13 +1,11 @@
 // Plan values: which of them can be stored.
-use model::Plan;
-use model::Refusal;
-use model::Verdict;
 ghost use mathlib.Core.Path.{_≡_};
 ghost use Prim.Native.Nat.{_<_};
 ghost use Rattle.model.specs.Lists.{rightPoint};
-ghost use Rattle.model.specs.Answers.{refusedAt};
-ghost use Rattle.block.specs.Blocks.{lowestFrom};
-ghost use Rattle.planvalue.specs.Values.{pointBefore, entryRight, planInRange, planVerdict};
+ghost use Rattle.planvalue.specs.Values.{pointBefore, entryRight, entriesVerdict, planInRange, planVerdict};
+use model::Plan;
+use model::Refusal;
+use model::Verdict;
 
 // A point p after the point a is above it and below n.
 fn right_point(n: u16, a: u16, p: u16) -> bool
@@ -42,7 +40,7 @@ fn entry_right(plan: Plan, i: usize) -> bool
 
 // The verdict on the entries: the lowest wrong one.
 fn check_entries(plan: Plan) -> Verdict
-    ensures { λ r. ⌜ r ≡ refusedAt (lowestFrom (entryRight plan) 0 64) Refusal.Argument Verdict.Accepted ⌝ }
+    ensures { λ r. ⌜ r ≡ entriesVerdict plan ⌝ }
 {
     let mut i = 0;
     while i < 64 {

@@ -4,38 +4,36 @@ use Prim.Native.Nat.{ℕ, zero, suc, _+_, _*_, _/_, _%_, _<_, _≤_}
 use mathlib.Core.Path.{_≡_, refl, sym, ap}
 use mathlib.Core.Bool.{Bool, true, false, cond, _&&_}
 use mathlib.Core.List.{List, [], _++_, append-nil, append-assoc}
-use native.Mathlib.Nat.{zero-add, add-zero, add-suc, suc-add, add-comm, mul-comm}
+use native.Mathlib.Nat.{add-zero, add-suc, suc-add, add-comm, mul-comm}
 use native.Mathlib.Numerals.{add-one}
 use native.Mathlib.Omega.{arith}
 use lib.Dec.{eqb, leb, ltb}
 use lib.ListN.{length, getD}
 use borrow.Author.Tests.{eqb-true, leb-true, ltb-true}
-use Rattle.model.specs.Task.{Block, Preempter, blockCount}
+use Rattle.model.specs.Task.{Block, blockCount}
 use Rattle.model.specs.Lines.{preempterReads, blockAt}
 use Rattle.model.specs.declared.Place.{Place}
 use Rattle.model.specs.declared.Place.the-variants.{Nowhere, At}
 use Rattle.model.specs.Answers.{refusedAt}
-use Rattle.model.specs.declared.Refusal.the-variants.{Length, Checksum, WrongHeader, BlockCount, WrongBlock}
+use Rattle.model.specs.declared.Refusal.{Refusal}
 use Rattle.model.specs.declared.Verdict.the-variants.{Accepted, Refused}
-use Rattle.model.proofs.Verdicts.{never-both}
+use Rattle.model.proofs.Verdicts.{never-both, both-accepted}
 use Rattle.model.proofs.Lists.{and-split}
 use Rattle.block.specs.Bytes.{field}
-use Rattle.block.specs.Blocks.{checksumRight, bodyRight, lowestFrom}
+use Rattle.block.specs.Blocks.{lowestFrom}
 use Rattle.block.proofs.Bytes.{field-part, length-fields, getD-fields}
 use Rattle.block.proofs.Blocks.{lowest-nowhere}
-use Rattle.taskfile.specs.File.{Header, headerBytes, headerInRange, headerRight, readsIn, basicOf, preempterOf, blockIn, blocksIn, entryReads, header, blockRight, lengthRight, verdict, collect, taskOf}
+use Rattle.taskfile.specs.File.{readsIn, basicOf, preempterOf, blockIn, blocksIn, entryReads, header, collect, taskOf, sumRight, countsInRange, headerInRange, headerRight, entryRight, blockRight, lengthRight, lengthRow, checksumRow, headerRow, countRow, blockRow, verdict}
 
--- an answer is Accepted where each of its tests holds
-tests : (size : Bool) (sum : Place) (head count : Bool) (body : Place)
-    → cond size (refusedAt sum Checksum (cond head (cond count (refusedAt body WrongBlock Accepted) (Refused BlockCount)) (Refused WrongHeader))) (Refused Length)
-    ≡ Accepted
-    → (size ≡ true) × (sum ≡ Nowhere) × (head ≡ true) × (count ≡ true) × (body ≡ Nowhere)
-tests true Nowhere true true Nowhere e = (refl, refl, refl, refl, refl)
-tests true Nowhere true true (At k) e = absurd (never-both (sym e))
-tests true Nowhere true false body e = absurd (never-both (sym e))
-tests true Nowhere false count body e = absurd (never-both (sym e))
-tests true (At k) head count body e = absurd (never-both (sym e))
-tests false sum head count body e = absurd (never-both (sym e))
+-- a row accepts where its test holds
+
+pub row-holds : (r : Refusal) (b : Bool) → cond b Accepted (Refused r) ≡ Accepted → b ≡ true
+row-holds r true e = refl
+row-holds r false e = absurd (never-both (sym e))
+
+row-nowhere : (r : ℕ → Refusal) (p : Place) → refusedAt p r Accepted ≡ Accepted → p ≡ Nowhere
+row-nowhere r Nowhere e = refl
+row-nowhere r (At k) e = absurd (never-both (sym e))
 
 -- an accepted file, of 1 + N + M blocks
 pub record AcceptedFile (file : List ℕ) : Type 0 where
@@ -43,21 +41,20 @@ pub record AcceptedFile (file : List ℕ) : Type 0 where
   pub blocks-least : 1 ≤ header file .blocks
   pub blocks-most : header file .blocks ≤ 64
   pub preempters-most : header file .preempters ≤ 32
-  pub lines-least : 1 ≤ header file .lineCount
-  pub lines-most : header file .lineCount ≤ 512
-  pub checksums : (k : ℕ) → k ≤ header file .blocks + header file .preempters → checksumRight (blockIn file k) ≡ true
-  pub header-right : headerRight (blockIn file 0) ≡ true
+  pub lines-least : 1 ≤ taskOf file .lineCount
+  pub lines-most : taskOf file .lineCount ≤ 512
+  pub checksums : (k : ℕ) → k ≤ header file .blocks + header file .preempters → sumRight file k ≡ true
+  pub header-right : headerRight file ≡ true
   pub blocks-right : (k : ℕ) → 1 ≤ k → k ≤ header file .blocks + header file .preempters → blockRight file k ≡ true
   pub count-most : (k : ℕ) → 1 ≤ k → k ≤ header file .blocks + header file .preempters → field (blockIn file k) 2 2 ≤ 124
 
-pub in-range : (h : Header) → headerInRange h ≡ true
-    → (1 ≤ h .blocks) × (h .blocks ≤ 64) × (h .preempters ≤ 32) × (1 ≤ h .lineCount) × (h .lineCount ≤ 512)
-unfolding headerInRange
-in-range h e =
-    let a = and-split (leb 1 (h .blocks) && leb (h .blocks) 64 && leb (h .preempters) 32 && leb 1 (h .lineCount)) (leb (h .lineCount) 512) e in
-    let b = and-split (leb 1 (h .blocks) && leb (h .blocks) 64 && leb (h .preempters) 32) (leb 1 (h .lineCount)) (a .0) in
-    let c = and-split (leb 1 (h .blocks) && leb (h .blocks) 64) (leb (h .preempters) 32) (b .0) in
-    let d = and-split (leb 1 (h .blocks)) (leb (h .blocks) 64) (c .0) in
+pub in-range : (n m s : ℕ) → countsInRange n m s ≡ true → (1 ≤ n) × (n ≤ 64) × (m ≤ 32) × (1 ≤ s) × (s ≤ 512)
+unfolding countsInRange
+in-range n m s e =
+    let a = and-split (leb 1 n && leb n 64 && leb m 32 && leb 1 s) (leb s 512) e in
+    let b = and-split (leb 1 n && leb n 64 && leb m 32) (leb 1 s) (a .0) in
+    let c = and-split (leb 1 n && leb n 64) (leb m 32) (b .0) in
+    let d = and-split (leb 1 n) (leb n 64) (c .0) in
     (leb-true _ _ (d .0), leb-true _ _ (d .1), leb-true _ _ (c .1), leb-true _ _ (b .1), leb-true _ _ (a .1))
 
 pub whole-blocks : (n : ℕ) → lengthRight n ≡ true → (0 < n) × (n % 512 ≡ 0)
@@ -66,39 +63,11 @@ whole-blocks n e =
     let a = and-split (ltb 0 n) (eqb (n % 512) 0) (and-split (ltb 0 n && eqb (n % 512) 0) (leb n 49664) e .0) in
     (ltb-true 0 n (a .0), eqb-true (n % 512) 0 (a .1))
 
-pub accepted : (file : List ℕ) → verdict file ≡ Accepted → AcceptedFile file
-unfolding verdict headerRight blockRight header blocksIn
-accepted file e =
-    let n : ℕ = header file .blocks in
-    let m : ℕ = header file .preempters in
-    let sums : Place = lowestFrom (λ k. checksumRight (blockIn file k)) 0 (blocksIn file) in
-    let bodies : Place = lowestFrom (blockRight file) 1 (n + m) in
-    let all = tests (lengthRight (length file)) sums (headerRight (blockIn file 0)) (eqb (blocksIn file) (1 + n + m)) bodies e in
-    let whole = whole-blocks (length file) (all .0) in
-    let count : length file / 512 ≡ 1 + n + m = eqb-true (blocksIn file) (1 + n + m) (all .3) in
-    let range = in-range (header file) (and-split (headerInRange (header file)) (bodyRight 0 (headerBytes (header file)) (blockIn file 0)) (all .2) .0) in
-    let right : (k : ℕ) → 1 ≤ k → k ≤ n + m → blockRight file k ≡ true = λ k l u. lowest-nowhere (blockRight file) 1 (n + m) (all .4) k l (omega arith) in
-    record {
-      long = omega arith;
-      blocks-least = range .0;
-      blocks-most = range .1;
-      preempters-most = range .2;
-      lines-least = range .3;
-      lines-most = range .4;
-      checksums = λ k l. lowest-nowhere (λ k. checksumRight (blockIn file k)) 0 (blocksIn file) (all .1) k (omega arith) (omega arith);
-      header-right = all .2;
-      blocks-right = right;
-      count-most = λ k l u. leb-true (field (blockIn file k) 2 2) 124 (and-split (leb (field (blockIn file k) 2 2) 124) _ (right k l u) .0);
-    }
-
 -- a number of block k is a number of the file
 
 pub field-in : (file : List ℕ) (k a w : ℕ) → a + w ≤ 512 → field (blockIn file k) a w ≡ field file (k * 512 + a) w
 unfolding blockIn
 field-in file k a w h = rw (mul-comm k 512) (field-part file (512 * k) 512 a w h)
-
-pub field-in-header : (file : List ℕ) (a w : ℕ) → a + w ≤ 512 → field (blockIn file 0) a w ≡ field file a w
-field-in-header file a w h = rw zero-add at (field-in file 0 a w h)
 
 pub length-reads : (file : List ℕ) (k : ℕ) → length (entryReads file k) ≡ field (blockIn file k) 2 2
 unfolding entryReads readsIn
@@ -138,10 +107,37 @@ module _ (file : List ℕ) where
   unfolding entryReads basicOf
   reads-at i h = rw (add-comm i 1) (ap (λ (b : Block). b .reads) (block-at i h))
 
-  pub preempter-at : (i : ℕ) (d : Preempter) → i < header file .preempters
-      → getD (taskOf file .preempters) i d ≡ preempterOf (blockIn file (1 + header file .blocks + i))
-  unfolding taskOf
-  preempter-at i d h = getD-collect (λ k. preempterOf (blockIn file k)) (1 + header file .blocks) (header file .preempters) i d h
+pub accepted : (file : List ℕ) → verdict file ≡ Accepted → AcceptedFile file
+unfolding verdict lengthRow checksumRow headerRow countRow blockRow headerRight headerInRange blockRight entryRight blocksIn
+accepted file e =
+    let n : ℕ = header file .blocks in
+    let m : ℕ = header file .preempters in
+    let size = both-accepted (lengthRow file) _ e in
+    let sums = both-accepted (checksumRow file) _ (size .1) in
+    let head = both-accepted (headerRow file) _ (sums .1) in
+    let count = both-accepted (countRow file) (blockRow file) (head .1) in
+    let whole = whole-blocks (length file) (row-holds _ (lengthRight (length file)) (size .0)) in
+    let counted : length file / 512 ≡ 1 + n + m = eqb-true (blocksIn file) (1 + n + m) (row-holds _ (eqb (blocksIn file) (1 + n + m)) (count .0)) in
+    let right : headerRight file ≡ true = row-holds _ (headerRight file) (head .0) in
+    let range = in-range n m (taskOf file .lineCount) (rw (block-count file, preempter-count file) at (and-split (headerInRange (taskOf file)) _ right .0)) in
+    let all : (k : ℕ) → 1 ≤ k → k ≤ n + m → blockRight file k ≡ true =
+    λ k l u. lowest-nowhere (blockRight file) 1 (n + m) (row-nowhere _ (lowestFrom (blockRight file) 1 (n + m)) (count .1)) k l (omega arith) in
+    record {
+      long = omega arith;
+      blocks-least = range .0;
+      blocks-most = range .1;
+      preempters-most = range .2;
+      lines-least = range .3;
+      lines-most = range .4;
+      checksums = λ k l. lowest-nowhere (sumRight file) 0 (blocksIn file) (row-nowhere _ (lowestFrom (sumRight file) 0 (blocksIn file)) (sums .0)) k (omega arith) (omega arith);
+      header-right = right;
+      blocks-right = all;
+      count-most = λ k l u. leb-true (field (blockIn file k) 2 2) 124 (few (leb k n) (leb (field (blockIn file k) 2 2) 124) _ _ (all k l u));
+    }
+  where
+    few : (basic count : Bool) (x y : Bool) → cond basic (count && x) (count && y) ≡ true → count ≡ true
+    few true count x y h = and-split count x h .0
+    few false count x y h = and-split count y h .0
 
 -- an accepted file has at most 64 basic blocks
 pub few-blocks : (file : List ℕ) → verdict file ≡ Accepted → blockCount (taskOf file) ≤ 64

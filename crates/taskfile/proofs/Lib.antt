@@ -1,4 +1,5 @@
 pub mod Accepted
 pub mod Frames
-pub mod Roundtrip
+pub mod Files
+pub mod Tasks
 pub mod Places

@@ -1,4 +1,4 @@
--- Task files (document 01, "Blocks of 512 bytes" and "Numbers given to the build"): the bytes of a task, the task of some bytes, and the
+-- Task files (document 01, "Blocks of 512 bytes" and "Numbers given to the build"): the task of some bytes, the bytes of a task, and the
 -- refusal of any bytes. Assumes nothing.
 use Prim.Native.Nat.{ℕ, zero, suc, _+_, _*_, _/_, _%_, _<_, _≤_, _^_}
 use mathlib.Core.Path.{_≡_}
@@ -7,133 +7,82 @@ use mathlib.Core.List.{List, [], _∷_, _++_, map}
 use lib.Dec.{eqb, leb, ltb}
 use lib.ListN.{length, take, drop}
 use Rattle.model.specs.Task.{Block, Preempter, Task, blockCount}
-use Rattle.model.specs.Answers.{refusedAt}
+use Rattle.model.specs.Answers.{refusedAt, andThen}
 use Rattle.model.specs.declared.Refusal.the-variants.{Length, Checksum, WrongHeader, BlockCount, WrongBlock}
 use Rattle.model.specs.declared.Verdict.{Verdict}
 use Rattle.model.specs.declared.Verdict.the-variants.{Accepted, Refused}
-use Rattle.block.specs.Bytes.{le, les, field, fields}
+use Rattle.block.specs.Bytes.{Sized, InWidth, packed, les, field, fields, Each}
 use Rattle.block.specs.Blocks.{numbered, sealed, checksumRight, bodyRight, lowestFrom}
-
--- the header's numbers: N, M, S, Q, R and the task's id
-pub record Header : Type 0 where
-  pub blocks : ℕ
-  pub preempters : ℕ
-  pub lineCount : ℕ
-  pub limit : ℕ
-  pub reload : ℕ
-  pub id : ℕ
-
--- reading: where each number of the header stands
-unfoldable pub headerOf : List ℕ → Header
-headerOf bs =
-    record {
-      blocks = field bs 2 2;
-      preempters = field bs 4 2;
-      lineCount = field bs 6 2;
-      limit = field bs 8 4;
-      reload = field bs 12 4;
-      id = field bs 16 4;
-    }
-
--- writing: the header's named bytes from byte 0
-unfoldable pub headerBytes : Header → List ℕ
-headerBytes h =
-    le 1 1 ++ le 1 0 ++ le 2 (h .blocks) ++ le 2 (h .preempters) ++ le 2 (h .lineCount) ++ le 4 (h .limit) ++ le 4 (h .reload) ++ le 4 (h .id)
-
--- N is 1 to 64, M 0 to 32, S 1 to 512; Q, R and id are free
-unfoldable pub headerInRange : Header → Bool
-headerInRange h = leb 1 (h .blocks) && leb (h .blocks) 64 && leb (h .preempters) 32 && leb 1 (h .lineCount) && leb (h .lineCount) 512
-
--- the header is right: kind, number, N, M, S and the zero bytes
-unfoldable pub headerRight : List ℕ → Bool
-headerRight bs = headerInRange (headerOf bs) && bodyRight 0 (headerBytes (headerOf bs)) bs
-
--- basic blocks and preempter blocks have one layout: kind, count r, a number (a time or an id), and r memory block numbers
-unfoldable pub entryBytes : ℕ → ℕ → List ℕ → List ℕ
-entryBytes kind x reads = le 1 kind ++ le 1 0 ++ le 2 (length reads) ++ le 4 x ++ les 4 reads
-
-unfoldable pub readsIn : List ℕ → List ℕ
-readsIn bs = fields bs 8 4 (field bs 2 2)
-
--- a basic block, of kind 2
-unfoldable pub basicOf : List ℕ → Block
-basicOf bs = record { time = field bs 4 4; reads = readsIn bs }
-
-unfoldable pub basicBytes : Block → List ℕ
-basicBytes b = entryBytes 2 (b .time) (b .reads)
-
--- a preempter block, of kind 3 (the document's interrupter block)
-unfoldable pub preempterOf : List ℕ → Preempter
-preempterOf bs = record { id = field bs 4 4; reads = readsIn bs }
-
-unfoldable pub preempterBytes : Preempter → List ℕ
-preempterBytes p = entryBytes 3 (p .id) (p .reads)
 
 -- block k of a file
 unfoldable pub blockIn : List ℕ → ℕ → List ℕ
 blockIn file k = take 512 (drop (512 * k) file)
 
+-- how many blocks a file has
 unfoldable pub blocksIn : List ℕ → ℕ
 blocksIn file = length file / 512
 
--- the reads of block k, of a basic block or a preempter block
+-- N and M, which say how many basic blocks and how many preempter blocks (the document's interrupter blocks) follow the header
+pub record Header : Type 0 where
+  pub blocks : ℕ
+  pub preempters : ℕ
+
+unfoldable pub header : List ℕ → Header
+header file = record { blocks = field file 2 2; preempters = field file 4 2 }
+
+-- what a basic block or a preempter block reads: r memory block numbers, after their count r
+unfoldable pub readsIn : List ℕ → List ℕ
+readsIn bs = fields bs 8 4 (field bs 2 2)
+
+-- the same of block k of a file
 unfoldable pub entryReads : List ℕ → ℕ → List ℕ
 entryReads file k = readsIn (blockIn file k)
 
-unfoldable pub header : List ℕ → Header
-header file = headerOf (blockIn file 0)
+-- a basic block: its time and its reads
+unfoldable pub basicOf : List ℕ → Block
+basicOf bs = record { time = field bs 4 4; reads = readsIn bs }
 
--- block k is right: its kind, its number, r and the zero bytes
-unfoldable pub blockRight : List ℕ → ℕ → Bool
-blockRight file k =
-    let bs = blockIn file k in
-    leb (field bs 2 2) 124 &&
-    cond (leb k (header file .blocks)) (bodyRight k (basicBytes (basicOf bs)) bs) (bodyRight k (preempterBytes (preempterOf bs)) bs)
-
--- the length is a multiple of 512, above 0 and at most 97 blocks
-unfoldable pub lengthRight : ℕ → Bool
-lengthRight n = ltb 0 n && eqb (n % 512) 0 && leb n 49664
-
--- the answer to any bytes: refusals 1 to 5 by number, each at its place
-unfoldable pub verdict : List ℕ → Verdict
-verdict file =
-    cond (lengthRight (length file))
-    (refusedAt (lowestFrom (λ k. checksumRight (blockIn file k)) 0 (blocksIn file)) Checksum
-    (cond (headerRight (blockIn file 0))
-    (cond (eqb (blocksIn file) (1 + header file .blocks + header file .preempters))
-    (refusedAt (lowestFrom (blockRight file) 1 (header file .blocks + header file .preempters)) WrongBlock Accepted)
-    (Refused BlockCount))
-    (Refused WrongHeader)))
-    (Refused Length)
+-- a preempter block: its id and its reads
+unfoldable pub preempterOf : List ℕ → Preempter
+preempterOf bs = record { id = field bs 4 4; reads = readsIn bs }
 
 -- f of the n numbers from a
 unfoldable pub collect : {A : Type 0} → (ℕ → A) → ℕ → ℕ → List A
 collect f a zero = []
 collect f a (suc n) = f a ∷ collect f (suc a) n
 
--- the task that an accepted file holds
+-- reading: where each of the task's numbers stands in the header, and the blocks after the header
 unfoldable pub taskOf : List ℕ → Task
 taskOf file =
     record {
-      id = header file .id;
-      lineCount = header file .lineCount;
-      limit = header file .limit;
-      reload = header file .reload;
+      lineCount = field file 6 2;
+      limit = field file 8 4;
+      reload = field file 12 4;
+      id = field file 16 4;
       blocks = collect (λ k. basicOf (blockIn file k)) 1 (header file .blocks);
       preempters = collect (λ k. preempterOf (blockIn file k)) (1 + header file .blocks) (header file .preempters);
     }
 
--- the header of a task
-unfoldable pub headerFor : Task → Header
-headerFor t =
-    record {
-      blocks = blockCount t;
-      preempters = length (t .preempters);
-      lineCount = t .lineCount;
-      limit = t .limit;
-      reload = t .reload;
-      id = t .id;
-    }
+-- writing: the header's numbers from byte 0 on, each behind its width: kind 1, a zero, N, M, S, Q, R and the task's id
+unfoldable pub headerNumbers : Task → List Sized
+headerNumbers t =
+    (1, 1) ∷ (1, 0) ∷ (2, blockCount t) ∷ (2, length (t .preempters)) ∷ (2, t .lineCount) ∷ (4, t .limit) ∷ (4, t .reload) ∷ (4, t .id) ∷ []
+
+-- basic blocks and preempter blocks have one layout: kind, byte 1, the count of the reads, a number x (a time or an id), and the reads
+unfoldable pub entryBytes : ℕ → ℕ → ℕ → List ℕ → List ℕ
+entryBytes kind byte1 x reads = packed ((1, kind) ∷ (1, byte1) ∷ (2, length reads) ∷ (4, x) ∷ []) ++ les 4 reads
+
+-- a basic block is of kind 2
+unfoldable pub basicBytes : Block → List ℕ
+basicBytes b = entryBytes 2 0 (b .time) (b .reads)
+
+-- a preempter block is of kind 3
+unfoldable pub preempterBytes : Preempter → List ℕ
+preempterBytes p = entryBytes 3 0 (p .id) (p .reads)
+
+-- the named bytes of each block of a task
+unfoldable pub namedBytes : Task → List (List ℕ)
+namedBytes t = packed (headerNumbers t) ∷ (map basicBytes (t .blocks) ++ map preempterBytes (t .preempters))
 
 -- whole blocks, numbered from k, with these named bytes
 unfoldable pub wholeBlocks : ℕ → List (List ℕ) → List ℕ
@@ -142,12 +91,60 @@ wholeBlocks k (named ∷ rest) = sealed (numbered k named) ++ wholeBlocks (suc k
 
 -- the bytes of a task
 unfoldable pub fileOf : Task → List ℕ
-fileOf t = wholeBlocks 0 (headerBytes (headerFor t) ∷ map basicBytes (t .blocks) ++ map preempterBytes (t .preempters))
+fileOf t = wholeBlocks 0 (namedBytes t)
 
--- each element of a list has P
-unfoldable pub Each : {A : Type 0} → (A → Type 0) → List A → Type 0
-Each P [] = Unit {0}
-Each P (x ∷ xs) = P x × Each P xs
+-- the length is a multiple of 512, above 0 and at most 97 blocks
+unfoldable pub lengthRight : ℕ → Bool
+lengthRight n = ltb 0 n && eqb (n % 512) 0 && leb n 49664
+
+-- the checksum of block k is right
+abbrev pub sumRight : List ℕ → ℕ → Bool
+sumRight file k = checksumRight (blockIn file k)
+
+-- N is 1 to 64, M 0 to 32, S 1 to 512
+unfoldable pub countsInRange : ℕ → ℕ → ℕ → Bool
+countsInRange n m s = leb 1 n && leb n 64 && leb m 32 && leb 1 s && leb s 512
+
+-- the ranges of a task's N, M and S; Q, R and id are free
+unfoldable pub headerInRange : Task → Bool
+headerInRange t = countsInRange (blockCount t) (length (t .preempters)) (t .lineCount)
+
+-- the header is right: N, M and S, and then its kind, its number and its zero bytes, since its bytes are those that its task's numbers make
+unfoldable pub headerRight : List ℕ → Bool
+headerRight file = headerInRange (taskOf file) && bodyRight 0 (packed (headerNumbers (taskOf file))) (blockIn file 0)
+
+-- a block is right as block k, of this kind and with this byte 1: r, and then its kind, its number and its zero bytes, since its bytes are
+-- those that its own numbers make
+unfoldable pub entryRight : ℕ → ℕ → ℕ → List ℕ → Bool
+entryRight k kind byte1 bs = leb (field bs 2 2) 124 && bodyRight k (entryBytes kind byte1 (field bs 4 4) (readsIn bs)) bs
+
+-- block k is right: a basic block up to N, and a preempter block after it
+unfoldable pub blockRight : List ℕ → ℕ → Bool
+blockRight file k = cond (leb k (header file .blocks)) (entryRight k 2 0 (blockIn file k)) (entryRight k 3 0 (blockIn file k))
+
+-- the rows of the table, each as if it stood alone. Refusal 1: a wrong length
+unfoldable pub lengthRow : List ℕ → Verdict
+lengthRow file = cond (lengthRight (length file)) Accepted (Refused Length)
+
+-- refusal 2: the lowest block with a wrong checksum
+unfoldable pub checksumRow : List ℕ → Verdict
+checksumRow file = refusedAt (lowestFrom (sumRight file) 0 (blocksIn file)) Checksum Accepted
+
+-- refusal 3: a wrong header
+unfoldable pub headerRow : List ℕ → Verdict
+headerRow file = cond (headerRight file) Accepted (Refused WrongHeader)
+
+-- refusal 4: the file is not 1 + N + M blocks
+unfoldable pub countRow : List ℕ → Verdict
+countRow file = cond (eqb (blocksIn file) (1 + header file .blocks + header file .preempters)) Accepted (Refused BlockCount)
+
+-- refusal 5: the lowest wrong block after the header
+unfoldable pub blockRow : List ℕ → Verdict
+blockRow file = refusedAt (lowestFrom (blockRight file) 1 (header file .blocks + header file .preempters)) WrongBlock Accepted
+
+-- the answer to any bytes: the refusal of the first row that has one
+unfoldable pub verdict : List ℕ → Verdict
+verdict file = andThen (lengthRow file) (andThen (checksumRow file) (andThen (headerRow file) (andThen (countRow file) (blockRow file))))
 
 -- what a block can hold: at most 124 reads, and numbers of four bytes
 pub record EntryWithin (x : ℕ) (reads : List ℕ) : Type 0 where
@@ -157,9 +154,7 @@ pub record EntryWithin (x : ℕ) (reads : List ℕ) : Type 0 where
 
 -- a task within the limits of a file
 pub record Within (t : Task) : Type 0 where
-  pub in-range : headerInRange (headerFor t) ≡ true
-  pub limit : t .limit < 2 ^ 32
-  pub reload : t .reload < 2 ^ 32
-  pub id : t .id < 2 ^ 32
+  pub in-range : headerInRange t ≡ true
+  pub numbers : Each InWidth (headerNumbers t)
   pub blocks : Each (λ b. EntryWithin (b .time) (b .reads)) (t .blocks)
   pub preempters : Each (λ p. EntryWithin (p .id) (p .reads)) (t .preempters)

@@ -1,18 +1,17 @@
 // Task files: the answer to any bytes, and the numbers of an accepted file.
 ghost use mathlib.Core.Path.{_≡_};
-ghost use mathlib.Core.Bool.{cond, _&&_};
-ghost use mathlib.Core.List.{_++_};
-ghost use Prim.Native.Nat.{_+_, _-_, _*_, _^_, _<_, _≤_};
-ghost use lib.Dec.{eqb, leb};
-ghost use lib.ListN.{length, getD, take, drop};
-ghost use Rattle.model.specs.Answers.{refusedAt};
+ghost use Prim.Native.Nat.{_+_, _*_, _^_, _<_, _≤_};
+ghost use lib.ListN.{length, getD};
+ghost use Rattle.model.specs.Answers.{andThen};
 ghost use Rattle.model.specs.Task.{blockCount};
 ghost use Rattle.model.specs.Lines.{blockAt};
-ghost use Rattle.block.specs.Bytes.{le, field};
-ghost use Rattle.block.specs.Blocks.{checksumRight, bodyRight, lowestFrom};
-ghost use Rattle.taskfile.specs.File.{lengthRight, headerRight, entryBytes, readsIn, blockIn, blocksIn, blockRight, verdict, header, taskOf, entryReads};
+ghost use Rattle.taskfile.specs.File.{blockIn, header, entryReads, taskOf, lengthRight, countsInRange, headerRight, entryRight, blockRight, checksumRow, headerRow, countRow, blockRow, verdict};
+ghost use Rattle.taskfile.specs.Steps.{fourRight, LeftToTest};
 use model::Refusal;
 use model::Verdict;
+
+// Where the header's named bytes end.
+const HEADER_END: usize = 20;
 
 // The answer to any bytes.
 pub fn check(file: &[u8]) -> Verdict
@@ -22,7 +21,7 @@ pub fn check(file: &[u8]) -> Verdict
         return Verdict::Refused(Refusal::Length);
     }
     let checksums = check_checksums(file);
-    let header = check_header(block_at(file, 0));
+    let header = check_header(file);
     answers::earlier(checksums, answers::earlier(header, check_blocks(file)))
 }
 
@@ -49,10 +48,10 @@ fn block_at(file: &[u8], k: usize) -> &[u8]
     &file[start..end]
 }
 
-// Whether the checksums of four blocks from block k on are all right.
+// Whether the checksums of the four blocks from block k on are right.
 fn four_right(file: &[u8], k: usize) -> bool
     requires { ⌜ k * 512 + 2048 ≤ length (now file) ⌝ }
-    ensures { λ r. ⌜ (let f = now (file .entry) in r ≡ (checksumRight (blockIn f k) && checksumRight (blockIn f (k + 1)) && checksumRight (blockIn f (k + 2)) && checksumRight (blockIn f (k + 3)))) ⌝ }
+    ensures { λ r. ⌜ r ≡ fourRight (now (file .entry)) k ⌝ }
 {
     block::four_checksums_right(
         block_at(file, k),
@@ -62,9 +61,9 @@ fn four_right(file: &[u8], k: usize) -> bool
     )
 }
 
-// How many blocks are left past the fours of right checksums: the lowest wrong one is the lowest of these.
+// How many blocks are left past the fours of right checksums.
 fn left_after_fours(file: &[u8]) -> usize
-    ensures { λ r. ⌜ (let f = now (file .entry) in (r ≤ blocksIn f) × (lowestFrom (λ k. checksumRight (blockIn f k)) 0 (blocksIn f) ≡ lowestFrom (λ k. checksumRight (blockIn f k)) (blocksIn f - r) r)) ⌝ }
+    ensures { λ r. ⌜ LeftToTest (now (file .entry)) r ⌝ }
 {
     let count = file.len() / 512;
     let mut left = count;
@@ -79,7 +78,7 @@ fn left_after_fours(file: &[u8]) -> usize
 
 // Refuses at the lowest block whose checksum is wrong.
 fn check_checksums(file: &[u8]) -> Verdict
-    ensures { λ r. ⌜ (let f = now (file .entry) in r ≡ refusedAt (lowestFrom (λ k. checksumRight (blockIn f k)) 0 (blocksIn f)) Refusal.Checksum Verdict.Accepted) ⌝ }
+    ensures { λ r. ⌜ r ≡ checksumRow (now (file .entry)) ⌝ }
 {
     let count = file.len() / 512;
     let mut left = left_after_fours(file);
@@ -93,35 +92,36 @@ fn check_checksums(file: &[u8]) -> Verdict
     Verdict::Accepted
 }
 
-fn check_header(block: &[u8]) -> Verdict
-    requires { ⌜ length (now block) ≡ 512 ⌝ }
-    ensures { λ r. ⌜ r ≡ cond (headerRight (now (block .entry))) Verdict.Accepted (Verdict.Refused Refusal.WrongHeader) ⌝ }
+// Refuses a wrong header.
+fn check_header(file: &[u8]) -> Verdict
+    requires { ⌜ 512 ≤ length (now file) ⌝ }
+    ensures { λ r. ⌜ r ≡ headerRow (now (file .entry)) ⌝ }
 {
-    if header_right(block) {
+    if header_right(file) {
         Verdict::Accepted
     } else {
         Verdict::Refused(Refusal::WrongHeader)
     }
 }
 
-// Whether a block is a header.
-fn header_right(block: &[u8]) -> bool
-    requires { ⌜ length (now block) ≡ 512 ⌝ }
-    ensures { λ r. ⌜ r ≡ headerRight (now (block .entry)) ⌝ }
+// Whether a file's first block is a right header.
+fn header_right(file: &[u8]) -> bool
+    requires { ⌜ 512 ≤ length (now file) ⌝ }
+    ensures { λ r. ⌜ r ≡ headerRight (now (file .entry)) ⌝ }
 {
-    if !in_range(
-        block::u16_at(block, 2),
-        block::u16_at(block, 4),
-        block::u16_at(block, 6),
+    if !counts_in_range(
+        block::u16_at(file, 2) as u32,
+        block::u16_at(file, 4) as u32,
+        block::u16_at(file, 6) as u32,
     ) {
         return false;
     }
-    frame_right(block, 0, 1, 20)
+    block::body_right(block_at(file, 0), 0, 1, 0, HEADER_END)
 }
 
-// The ranges of N, M and S.
-fn in_range(blocks: u16, preempters: u16, lines: u16) -> bool
-    ensures { λ r. ⌜ r ≡ (leb 1 blocks && leb blocks 64 && leb preempters 32 && leb 1 lines && leb lines 512) ⌝ }
+// Whether N, M and S are in their ranges.
+pub fn counts_in_range(blocks: u32, preempters: u32, lines: u32) -> bool
+    ensures { λ r. ⌜ r ≡ countsInRange blocks preempters lines ⌝ }
 {
     if blocks < 1 {
         return false;
@@ -141,7 +141,7 @@ fn in_range(blocks: u16, preempters: u16, lines: u16) -> bool
 // Refuses a file that has not the blocks that its header counts, or else at its lowest wrong block.
 fn check_blocks(file: &[u8]) -> Verdict
     requires { ⌜ 512 ≤ length (now file) ⌝ }
-    ensures { λ r. ⌜ (let f = now (file .entry) in r ≡ cond (eqb (blocksIn f) (1 + header f .blocks + header f .preempters)) (refusedAt (lowestFrom (blockRight f) 1 (header f .blocks + header f .preempters)) Refusal.WrongBlock Verdict.Accepted) (Verdict.Refused Refusal.BlockCount)) ⌝ }
+    ensures { λ r. ⌜ r ≡ andThen (countRow (now (file .entry))) (blockRow (now (file .entry))) ⌝ }
 {
     let blocks = block::u16_at(file, 2);
     let preempters = block::u16_at(file, 4);
@@ -154,8 +154,9 @@ fn check_blocks(file: &[u8]) -> Verdict
 
 // Refuses at the lowest wrong block after the header.
 fn check_entries(file: &[u8], blocks: u16, count: usize) -> Verdict
-    requires { ⌜ (blocks ≡ header (now file) .blocks) × (count * 512 + 512 ≤ length (now file)) × (count < 2 ^ 32) ⌝ }
-    ensures { λ r. ⌜ r ≡ refusedAt (lowestFrom (blockRight (now (file .entry))) 1 count) Refusal.WrongBlock Verdict.Accepted ⌝ }
+    requires { ⌜ (blocks ≡ header (now file) .blocks) × (count ≡ header (now file) .blocks + header (now file) .preempters) ⌝ }
+    requires { ⌜ (count * 512 + 512 ≤ length (now file)) × (count < 2 ^ 32) ⌝ }
+    ensures { λ r. ⌜ r ≡ blockRow (now (file .entry)) ⌝ }
 {
     let mut left = count;
     while left != 0 {
@@ -175,33 +176,22 @@ fn block_right(file: &[u8], blocks: u16, k: usize) -> bool
 {
     let block = block_at(file, k);
     if k <= blocks as usize {
-        entry_right(block, k, 2)
+        entry_right(block, k, 2, 0)
     } else {
-        entry_right(block, k, 3)
+        entry_right(block, k, 3, 0)
     }
 }
 
-// Whether a block is one of this number and kind, with at most 124 reads.
-fn entry_right(block: &[u8], number: usize, kind: u8) -> bool
+// Whether a block has this number, kind and byte 1, and at most 124 reads.
+fn entry_right(block: &[u8], number: usize, kind: u8, byte_1: u8) -> bool
     requires { ⌜ (length (now block) ≡ 512) × (number < 2 ^ 32) ⌝ }
-    ensures { λ r. ⌜ (let bs = now (block .entry) in r ≡ (leb (field bs 2 2) 124 && bodyRight number (entryBytes kind (field bs 4 4) (readsIn bs)) bs)) ⌝ }
+    ensures { λ r. ⌜ r ≡ entryRight number kind byte_1 (now (block .entry)) ⌝ }
 {
     let count = block::u16_at(block, 2) as usize;
     if count > 124 {
         return false;
     }
-    frame_right(block, number as u32, kind, 8 + 4 * count)
-}
-
-// Whether a block has this number and kind, and zeros at byte 1 and from end on; bytes 2 to end - 1 are free.
-fn frame_right(block: &[u8], number: u32, kind: u8, end: usize) -> bool
-    requires { ⌜ (length (now block) ≡ 512) × (2 ≤ end) × (end ≤ 504) ⌝ }
-    ensures { λ r. ⌜ (let bs = now (block .entry) in r ≡ bodyRight number (le 1 kind ++ (le 1 0 ++ take (end - 2) (drop 2 bs))) bs) ⌝ }
-{
-    if !block::zero_between(block, 1, 2) {
-        return false;
-    }
-    block::body_right(block, number, kind, end)
+    block::body_right(block, number as u32, kind, byte_1, 8 + 4 * count)
 }
 
 // N, the number of basic blocks.

@@ -13,12 +13,12 @@ use Rattle.block.proofs.clear_between.Statement.{statement}
 use Rattle.block.proofs.clear_between.Tie as tie
 
 abbrev Inv-loop : tie.InvT-loop
-Inv-loop bytes₀ from to i₀ bytes i =
-    (i ≤ to) × (length bytes ≡ length bytes₀) ×
-    (take i bytes ++ replicate (to - i) 0 ++ drop to bytes ≡ take from bytes₀ ++ replicate (to - from) 0 ++ drop to bytes₀)
+Inv-loop bytes₀ start end i₀ bytes i =
+    (i ≤ end) × (length bytes ≡ length bytes₀) ×
+    (take i bytes ++ replicate (end - i) 0 ++ drop end bytes ≡ take start bytes₀ ++ replicate (end - start) 0 ++ drop end bytes₀)
 
 abbrev μ-loop : tie.MeasureT-loop
-μ-loop bytes₀ from to i₀ bytes i = to - i
+μ-loop bytes₀ start end i₀ bytes i = end - i
 
 loop-holds : tie.Need-loop-holds Inv-loop μ-loop
 loop-holds c = search needs
@@ -44,7 +44,7 @@ same-length c = search needs
 
 returns : tie.Need-returns Inv-loop μ-loop
 returns c =
-    let all : c .before .loop .i ≡ c .before .before .args .to = omega arith in
+    let all : c .before .loop .i ≡ c .before .before .args .end = omega arith in
     rw (all, sub-self, append-nil, take-append-drop) at (c .before .loop .inv .2)
 
 pub clear-between-spec : {M : Type 1} → statement M

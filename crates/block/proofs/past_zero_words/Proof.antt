@@ -5,15 +5,16 @@ use mathlib.Core.Path.{_≡_, refl}
 use native.Mathlib.Omega.{arith}
 use borrow.Author.Needs.{needs}
 use borrow.Author.Tests.{eq-eqb}
-use Rattle.block.proofs.Bytes.{zeros, zeros-step}
+use Rattle.block.specs.Bytes.{zerosBetween}
+use Rattle.block.proofs.Bytes.{zeros-step}
 use Rattle.block.proofs.past_zero_words.Statement.{statement}
 use Rattle.block.proofs.past_zero_words.Tie as tie
 
 abbrev Inv-loop : tie.InvT-loop
-Inv-loop bytes from to last i₀ i = zeros bytes i to ≡ zeros bytes from to
+Inv-loop bytes start end last i₀ i = zerosBetween bytes i end ≡ zerosBetween bytes start end
 
 abbrev μ-loop : tie.MeasureT-loop
-μ-loop bytes from to last i₀ i = to - i
+μ-loop bytes start end last i₀ i = end - i
 
 returns : tie.Need-returns Inv-loop μ-loop
 returns c = refl
@@ -39,7 +40,7 @@ loop-again c =
     let known = head .before .before in
     let args = known .before .args in
     rw (
-      zeros-step 8 (args .bytes .now) (head .loop .i) (args .to) (λ i _. known .shared-slice-known .given i .fits) (omega arith) (omega arith),
+      zeros-step 8 (args .bytes .now) (head .loop .i) (args .end) (λ i _. known .shared-slice-known .given i .fits) (omega arith) (omega arith),
       ← c .before .u64-at .ensures,
       eq-eqb _ _ (c .if2 .left),
     )

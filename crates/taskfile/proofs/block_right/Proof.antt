@@ -4,7 +4,7 @@ use mathlib.Core.Path.{_∙_}
 use native.Mathlib.Omega.{arith}
 use borrow.Author.Needs.{needs}
 use borrow.Author.Tests.{le-leb, lt-leb}
-use Rattle.taskfile.specs.File.{header, blockRight, basicOf, basicBytes, preempterOf, preempterBytes}
+use Rattle.taskfile.specs.File.{header, blockRight}
 use Rattle.taskfile.proofs.Frames.{length-in}
 use Rattle.taskfile.proofs.block_right.Statement.{statement}
 use Rattle.taskfile.proofs.block_right.Tie as tie
@@ -19,13 +19,13 @@ entry-right-requires-2 : tie.Need-entry-right-requires-2
 entry-right-requires-2 c κs = (rw (c .before .block-at .ensures) (length-in _ _ (c .before .before .before .pre .1)), search needs)
 
 returns : tie.Need-returns
-unfolding blockRight basicOf basicBytes
+unfolding blockRight
 returns c =
     let args = c .before .before .before .before .args in
     c .entry-right .ensures ∙ rw (c .before .before .block-at .ensures, le-leb (args .k) (header (args .file .now) .blocks) (omega arith))
 
 returns-2 : tie.Need-returns-2
-unfolding blockRight preempterOf preempterBytes
+unfolding blockRight
 returns-2 c =
     let args = c .before .before .before .before .args in
     c .entry-right2 .ensures ∙ rw (c .before .before .block-at .ensures, lt-leb (args .k) (header (args .file .now) .blocks) (omega arith))

@@ -1,12 +1,11 @@
 -- `taskfile::check_blocks` meets its contract: the header's two counts are read, and they decide which blocks are looked at.
 -- Assumes nothing.
-use mathlib.Core.Path.{_≡_, sym, _∙_}
+use mathlib.Core.Path.{_≡_}
 use native.Mathlib.Nat.{add-assoc}
 use native.Mathlib.Omega.{arith}
 use borrow.Author.Needs.{needs}
 use borrow.Author.Tests.{eq-eqb, ne-eqb}
-use Rattle.taskfile.specs.File.{header, headerOf, blocksIn}
-use Rattle.taskfile.proofs.Accepted.{field-in-header}
+use Rattle.taskfile.specs.File.{header, blocksIn, countRow}
 use Rattle.taskfile.proofs.check_blocks.Statement.{statement}
 use Rattle.taskfile.proofs.check_blocks.Tie as tie
 
@@ -14,10 +13,8 @@ use Rattle.taskfile.proofs.check_blocks.Tie as tie
 counts : (c : tie.After-u16-at2)
     → let h = header (c .before .before .before .args .file .now) in
     (c .before .u16-at .result ≡ h .blocks) × (c .u16-at2 .result ≡ h .preempters)
-unfolding header headerOf
-counts c =
-    let file = c .before .before .before .args .file .now in
-    (c .before .u16-at .ensures ∙ sym (field-in-header file 2 2 (omega arith)), c .u16-at2 .ensures ∙ sym (field-in-header file 4 2 (omega arith)))
+unfolding header
+counts c = (c .before .u16-at .ensures, c .u16-at2 .ensures)
 
 u16-at-requires : tie.Need-u16-at-requires
 u16-at-requires c κs = search needs
@@ -38,14 +35,16 @@ add-if1 : tie.Need-add-if1
 add-if1 c = search needs
 
 returns : tie.Need-returns
-unfolding blocksIn
+unfolding blocksIn countRow
 returns c = rw (← counts (c .before) .0, ← counts (c .before) .1, add-assoc, ne-eqb _ _ (c .if1 .taken))
 
 check-entries-requires : tie.Need-check-entries-requires
-check-entries-requires c κs = (counts (c .before) .0, omega arith, omega arith)
+check-entries-requires c κs =
+    let are = counts (c .before) in
+    ((are .0, omega arith), (omega arith, omega arith))
 
 returns-2 : tie.Need-returns-2
-unfolding blocksIn
+unfolding blocksIn countRow
 returns-2 c =
     rw (← counts (c .before .before) .0, ← counts (c .before .before) .1, add-assoc, eq-eqb _ _ (c .before .if1 .left)) (c .check-entries .ensures)
 

@@ -12,13 +12,14 @@ use Rattle.model.specs.declared.Refusal.the-variants.{Checksum}
 use Rattle.model.specs.declared.Verdict.the-variants.{Accepted}
 use Rattle.block.specs.Blocks.{checksumRight}
 use Rattle.block.proofs.Blocks.{scan-next, scan-here, scan-end}
-use Rattle.taskfile.specs.File.{blocksIn}
-use Rattle.taskfile.proofs.Frames.{length-in, sumRight, ToLookAt}
+use Rattle.taskfile.specs.File.{blocksIn, sumRight, checksumRow}
+use Rattle.taskfile.specs.Steps.{LeftToTest}
+use Rattle.taskfile.proofs.Frames.{length-in}
 use Rattle.taskfile.proofs.check_checksums.Statement.{statement}
 use Rattle.taskfile.proofs.check_checksums.Tie as tie
 
 abbrev Inv-loop : tie.InvT-loop
-Inv-loop file count left₀ left = ToLookAt file count left
+Inv-loop file count left₀ left = LeftToTest file left
 
 abbrev μ-loop : tie.MeasureT-loop
 μ-loop file count left₀ left = left
@@ -31,12 +32,15 @@ unfolding blocksIn
 loop-holds c = c .left-after-fours .ensures
 
 sub-k : tie.Need-sub-k Inv-loop μ-loop
+unfolding blocksIn
 sub-k c = omega arith
 
 block-at-requires : tie.Need-block-at-requires Inv-loop μ-loop
+unfolding blocksIn
 block-at-requires c κs = omega arith
 
 checksum-right-requires : tie.Need-checksum-right-requires Inv-loop μ-loop
+unfolding blocksIn
 checksum-right-requires c κs = rw (c .block-at .ensures) (length-in _ _ (omega arith))
 
 tested : (c : tie.After-checksum-right Inv-loop μ-loop)
@@ -46,7 +50,7 @@ tested : (c : tie.After-checksum-right Inv-loop μ-loop)
 tested c = ap checksumRight (sym (c .before .block-at .ensures)) ∙ sym (c .checksum-right .ensures)
 
 returns : tie.Need-returns Inv-loop μ-loop
-unfolding blocksIn
+unfolding checksumRow blocksIn
 returns c =
     let head = c .before .before .before .before in
     sym
@@ -55,12 +59,15 @@ returns c =
     scan-here (sumRight (head .before .before .before .args .file .now)) _ _ (c .before .before .before .loop-test .taken) (tested (c .before) ∙ not-true _ (c .if1 .taken))))
 
 sub-left : tie.Need-sub-left Inv-loop μ-loop
+unfolding blocksIn
 sub-left c = omega arith
 
 loop-less : tie.Need-loop-less Inv-loop μ-loop
+unfolding blocksIn
 loop-less c = omega arith
 
 loop-again : tie.Need-loop-again Inv-loop μ-loop
+unfolding blocksIn
 loop-again c =
     let head = c .before .before .before .before in (
       omega arith,
@@ -70,7 +77,7 @@ loop-again c =
     )
 
 returns-2 : tie.Need-returns-2 Inv-loop μ-loop
-unfolding blocksIn
+unfolding checksumRow blocksIn
 returns-2 c =
     let head = c .before in
     sym

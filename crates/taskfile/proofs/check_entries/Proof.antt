@@ -10,7 +10,7 @@ use Rattle.model.specs.declared.Place.{Place}
 use Rattle.model.specs.declared.Refusal.the-variants.{WrongBlock}
 use Rattle.model.specs.declared.Verdict.the-variants.{Accepted}
 use Rattle.block.specs.Blocks.{lowestFrom}
-use Rattle.taskfile.specs.File.{blockRight}
+use Rattle.taskfile.specs.File.{blockRight, blockRow}
 use Rattle.block.proofs.Blocks.{scan-next, scan-here, scan-end}
 use Rattle.taskfile.proofs.check_entries.Statement.{statement}
 use Rattle.taskfile.proofs.check_entries.Tie as tie
@@ -35,13 +35,15 @@ block-right-requires : tie.Need-block-right-requires Inv-loop μ-loop
 block-right-requires c κs = omega arith
 
 returns : tie.Need-returns Inv-loop μ-loop
+unfolding blockRow
 returns c =
     let head = c .before .before .before in
-    sym
+    rw (← head .before .before .pre .0 .1)
+    (sym
     (ap (λ (p : Place). refusedAt p WrongBlock Accepted)
     (head .loop .inv .1 ∙
     scan-here (blockRight (head .before .before .args .file .now)) _ _ (c .before .before .loop-test .taken)
-    (sym (c .before .block-right .ensures) ∙ not-true _ (c .if1 .taken))))
+    (sym (c .before .block-right .ensures) ∙ not-true _ (c .if1 .taken)))))
 
 sub-left : tie.Need-sub-left Inv-loop μ-loop
 sub-left c = omega arith
@@ -59,11 +61,13 @@ loop-again c =
     )
 
 returns-2 : tie.Need-returns-2 Inv-loop μ-loop
+unfolding blockRow
 returns-2 c =
     let head = c .before in
-    sym
+    rw (← head .before .before .pre .0 .1)
+    (sym
     (ap (λ (p : Place). refusedAt p WrongBlock Accepted)
-    (head .loop .inv .1 ∙ scan-end (blockRight (head .before .before .args .file .now)) _ _ (c .loop-test .left)))
+    (head .loop .inv .1 ∙ scan-end (blockRight (head .before .before .args .file .now)) _ _ (c .loop-test .left))))
 
 pub check-entries-spec : {M : Type 1} → statement M
 check-entries-spec =

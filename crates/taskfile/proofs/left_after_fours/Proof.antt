@@ -4,24 +4,28 @@ use mathlib.Core.Path.{sym, _∙_}
 use native.Mathlib.Nat.{sub-self}
 use native.Mathlib.Omega.{arith}
 use borrow.Author.Tests.{not-false}
-use Rattle.taskfile.specs.File.{blocksIn}
-use Rattle.taskfile.proofs.Frames.{sumRight, ToLookAt, scan-four}
+use Rattle.taskfile.specs.File.{blocksIn, sumRight}
+use Rattle.taskfile.specs.Steps.{LeftToTest}
+use Rattle.taskfile.proofs.Frames.{scan-four}
 use Rattle.taskfile.proofs.left_after_fours.Statement.{statement}
 use Rattle.taskfile.proofs.left_after_fours.Tie as tie
 
 abbrev Inv-loop : tie.InvT-loop
-Inv-loop file count left₀ left = ToLookAt file count left
+Inv-loop file count left₀ left = LeftToTest file left
 
 abbrev μ-loop : tie.MeasureT-loop
 μ-loop file count left₀ left = left
 
 loop-holds : tie.Need-loop-holds Inv-loop μ-loop
+unfolding blocksIn
 loop-holds c = (omega arith, rw sub-self)
 
 sub-four-right : tie.Need-sub-four-right Inv-loop μ-loop
+unfolding blocksIn
 sub-four-right c = omega arith
 
 four-right-requires : tie.Need-four-right-requires Inv-loop μ-loop
+unfolding blocksIn
 four-right-requires c κs = omega arith
 
 returns : tie.Need-returns Inv-loop μ-loop
@@ -29,9 +33,11 @@ unfolding blocksIn
 returns c = c .before .before .before .loop .inv
 
 loop-less : tie.Need-loop-less Inv-loop μ-loop
+unfolding blocksIn
 loop-less c = omega arith
 
 loop-again : tie.Need-loop-again Inv-loop μ-loop
+unfolding blocksIn
 loop-again c =
     let head = c .before .before .before in (
       omega arith,

@@ -1,10 +1,10 @@
 -- `taskfile::line_count` meets its contract: it reads the header's number of lines.
 -- Assumes nothing.
-use mathlib.Core.Path.{_≡_, sym, _∙_}
+use mathlib.Core.Path.{_≡_}
 use native.Mathlib.Omega.{arith}
 use borrow.Author.Needs.{needs}
-use Rattle.taskfile.specs.File.{header, headerOf, taskOf}
-use Rattle.taskfile.proofs.Accepted.{accepted, field-in-header}
+use Rattle.taskfile.specs.File.{taskOf}
+use Rattle.taskfile.proofs.Accepted.{accepted}
 use Rattle.taskfile.proofs.line_count.Statement.{statement}
 use Rattle.taskfile.proofs.line_count.Tie as tie
 
@@ -15,10 +15,10 @@ cast-result : tie.Need-cast-result
 cast-result c = search needs
 
 returns : tie.Need-returns
-unfolding taskOf header headerOf
+unfolding taskOf
 returns c =
     let file = c .before .before .args .file .now in
-    let r : c .u16-at .result ≡ header file .lineCount = c .u16-at .ensures ∙ sym (field-in-header file 6 2 (omega arith)) in
+    let r : c .u16-at .result ≡ taskOf file .lineCount = c .u16-at .ensures in
     let a = accepted file (c .before .before .pre) in
     (r, omega arith, omega arith)
 

@@ -1,0 +1,89 @@
+-- An accepted file is the bytes of its task.
+-- Assumes nothing.
+use Prim.Native.Nat.{ℕ, zero, suc, _+_, _*_, _<_, _≤_}
+use mathlib.Core.Path.{_≡_, refl, ap}
+use mathlib.Core.List.{List, [], _∷_, _++_, map, append-assoc}
+use native.Mathlib.Nat.{add-zero, add-suc, suc-add}
+use native.Mathlib.Omega.{arith}
+use lib.Dec.{leb}
+use lib.ListN.{length, take, drop}
+use lib.Seq.{take-all, take-add, drop-drop}
+use borrow.Author.Tests.{le-leb, lt-leb}
+use Rattle.model.specs.declared.Verdict.the-variants.{Accepted}
+use Rattle.model.proofs.Lists.{and-split}
+use Rattle.block.specs.Bytes.{packed, field}
+use Rattle.block.specs.Blocks.{numbered, sealed}
+use Rattle.block.proofs.Blocks.{block-is}
+use Rattle.taskfile.specs.File.{blockIn, header, basicOf, preempterOf, collect, taskOf, headerNumbers, basicBytes, preempterBytes, namedBytes, wholeBlocks, fileOf, headerInRange, headerRight, entryRight, blockRight, verdict}
+use Rattle.taskfile.proofs.Accepted.{AcceptedFile, accepted, length-collect}
+
+-- whole blocks
+
+whole-append : (k : ℕ) (xs ys : List (List ℕ)) → wholeBlocks k (xs ++ ys) ≡ wholeBlocks k xs ++ wholeBlocks (k + length xs) ys
+unfolding wholeBlocks
+whole-append k [] ys = rw add-zero
+whole-append k (x ∷ xs) ys = rw (whole-append (suc k) xs ys, add-suc, ← suc-add, append-assoc)
+
+map-collect : {A B : Type 0} (g : A → B) (f : ℕ → A) (a n : ℕ) → map g (collect f a n) ≡ collect (λ k. g (f k)) a n
+unfolding collect
+map-collect g f a zero = refl
+map-collect g f a (suc n) = ap (λ (r : List _). g (f a) ∷ r) (map-collect g f (suc a) n)
+
+-- the n blocks from k are the bytes from block k on, where each block is as it was named
+whole-in : (file : List ℕ) (g : ℕ → List ℕ) (k n : ℕ) → ((i : ℕ) → k ≤ i → i < k + n → blockIn file i ≡ sealed (numbered i (g i)))
+    → wholeBlocks k (collect g k n) ≡ take (512 * n) (drop (512 * k) file)
+unfolding wholeBlocks collect blockIn
+whole-in file g k zero h = refl
+whole-in file g k (suc n) h =
+    let next : 512 * suc k ≡ 512 * k + 512 = omega arith in
+    let more : 512 * suc n ≡ 512 + 512 * n = omega arith in
+    let later = whole-in file g (suc k) n (λ i l u. h i (omega arith) (omega arith)) in
+    rw (← h k (omega arith) (omega arith), later, next, more, take-add 512 (512 * n), drop-drop)
+
+three-parts : (bs : List ℕ) (n m : ℕ) → length bs ≡ 512 * (1 + n + m)
+    → take 512 bs ++ (take (512 * n) (drop 512 bs) ++ take (512 * m) (drop (512 * (1 + n)) bs)) ≡ bs
+three-parts bs n m l =
+    let s : 512 * (1 + n) ≡ 512 + 512 * n = omega arith in
+    rw (s, ← drop-drop (512 * n) 512 bs, ← take-add (512 * n) (512 * m) (drop 512 bs), ← take-add 512 (512 * n + 512 * m) bs)
+    (take-all (512 + (512 * n + 512 * m)) bs (omega arith))
+
+module _ (file : List ℕ) (a : AcceptedFile file) where
+  first-block : blockIn file 0 ≡ sealed (numbered 0 (packed (headerNumbers (taskOf file))))
+  unfolding headerRight
+  first-block =
+      block-is 0 (packed (headerNumbers (taskOf file))) (blockIn file 0) (a .checksums 0 (omega arith))
+      (and-split (headerInRange (taskOf file)) _ (a .header-right) .1)
+
+  basic-block : (k : ℕ) → 1 ≤ k → k < 1 + header file .blocks → blockIn file k ≡ sealed (numbered k (basicBytes (basicOf (blockIn file k))))
+  unfolding blockRight entryRight basicOf basicBytes
+  basic-block k l u =
+      let right = rw (le-leb k (header file .blocks) (omega arith)) at (a .blocks-right k l (omega arith)) in
+      block-is k (basicBytes (basicOf (blockIn file k))) (blockIn file k) (a .checksums k (omega arith)) (and-split (leb (field (blockIn file k) 2 2) 124) _ right .1)
+
+  preempter-block : (k : ℕ) → 1 + header file .blocks ≤ k → k < 1 + header file .blocks + header file .preempters
+      → blockIn file k ≡ sealed (numbered k (preempterBytes (preempterOf (blockIn file k))))
+  unfolding blockRight entryRight preempterOf preempterBytes
+  preempter-block k l u =
+      let right = rw (lt-leb k (header file .blocks) (omega arith)) at (a .blocks-right k (omega arith) (omega arith)) in
+      block-is k (preempterBytes (preempterOf (blockIn file k))) (blockIn file k) (a .checksums k (omega arith)) (and-split (leb (field (blockIn file k) 2 2) 124) _ right .1)
+
+  file-of-task : fileOf (taskOf file) ≡ file
+  unfolding fileOf namedBytes wholeBlocks taskOf blockIn
+  file-of-task =
+      let n = header file .blocks in
+      let m = header file .preempters in
+      let basic : ℕ → List ℕ = λ k. basicBytes (basicOf (blockIn file k)) in
+      let preempter : ℕ → List ℕ = λ k. preempterBytes (preempterOf (blockIn file k)) in
+      rw (
+        ← first-block,
+        map-collect basicBytes (λ k. basicOf (blockIn file k)) 1 n,
+        map-collect preempterBytes (λ k. preempterOf (blockIn file k)) (1 + n) m,
+        whole-append 1 (collect basic 1 n) (collect preempter (1 + n) m),
+        length-collect basic 1 n,
+        whole-in file basic 1 n basic-block,
+        whole-in file preempter (1 + n) m preempter-block,
+      )
+      (three-parts file n m (a .long))
+
+pub task-then-file : (file : List ℕ) → verdict file ≡ Accepted → fileOf (taskOf file) ≡ file
+task-then-file file e = file-of-task file (accepted file e)

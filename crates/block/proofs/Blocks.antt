@@ -18,7 +18,7 @@ use Rattle.fnv.specs.Fnv.{fnv1a}
 use Rattle.fnv.proofs.Laws.{hash-below}
 use Rattle.block.specs.Bytes.{AllBytes, Sized, InWidth, le, les, packed, field, fields, zerosBetween, Each}
 use Rattle.block.specs.Blocks.{numbered, sealed, checksumRight, bodyRight, framed, lowestFrom}
-use Rattle.block.proofs.Bytes.{length-le, length-part, same-field, field-byte, fields-les}
+use Rattle.block.proofs.Bytes.{length-le, length-part, same-field, field-byte, bytes-append, bytes-zeros, bytes-le, fields-les}
 use Rattle.block.proofs.Packing.{total, unpacked, packed-unpacked, numberAt, numbers-read}
 
 fnv-below : (bs : List ℕ) → fnv1a bs < 2 ^ 32
@@ -127,6 +127,14 @@ afterNamed k named = replicate (504 - length named) 0 ++ (le 4 k ++ le 4 (fnv1a 
 pub sealed-named : (k : ℕ) (named : List ℕ) → sealed (numbered k named) ≡ named ++ afterNamed k named
 unfolding sealed numbered
 sealed-named k named = simp append-assoc
+
+pub sealed-bytes : (k : ℕ) (named : List ℕ) → AllBytes named → AllBytes (sealed (numbered k named))
+unfolding sealed numbered
+sealed-bytes k named b =
+    let zeros : List ℕ = replicate (504 - length named) 0 in
+    let numbers : AllBytes (named ++ zeros ++ le 4 k) =
+    bytes-append (named ++ zeros) (le 4 k) (bytes-append named zeros b (bytes-zeros (504 - length named))) (bytes-le 4 k) in
+    bytes-append (named ++ zeros ++ le 4 k) (le 4 (fnv1a (named ++ zeros ++ le 4 k))) numbers (bytes-le 4 (fnv1a (named ++ zeros ++ le 4 k)))
 
 -- a block whose named bytes are numbers and then a list of numbers of one width reads back
 

@@ -8,7 +8,7 @@ use native.Mathlib.Nat.{zero-add, add-zero, suc-add, add-assoc, mul-zero, mul-su
 use native.Mathlib.Omega.{arith}
 use lib.Arith.{mod-mul}
 use lib.Dec.{eqb}
-use lib.ListN.{length, getD, take, drop, set, replicate, length-append, length-take, length-drop, length-replicate, replicate-append-replicate}
+use lib.ListN.{length, getD, take, drop, set, replicate, length-append, length-take, length-drop, length-replicate, getD-replicate, replicate-append-replicate}
 use lib.Pow.{pow-add}
 use lib.Seq.{take-take, take-add, take-at, drop-drop, drop-cons, drop-at, length-take-le, getD-take, getD-drop, take-suc-set, drop-set-lt, append-snoc}
 use Rattle.model.specs.Lists.{sameList}
@@ -55,6 +55,25 @@ bytes-take m bs b i h =
 
 bytes-tail : (x : ℕ) (bs : List ℕ) → AllBytes (x ∷ bs) → AllBytes bs
 bytes-tail x bs b i h = b (suc i) (omega arith)
+
+pub bytes-append : (xs ys : List ℕ) → AllBytes xs → AllBytes ys → AllBytes (xs ++ ys)
+bytes-append [] ys a b i h = b i h
+bytes-append (x ∷ xs) ys a b zero h = a 0 (omega arith)
+bytes-append (x ∷ xs) ys a b (suc i) h = bytes-append xs ys (bytes-tail x xs a) b i (omega arith)
+
+pub bytes-zeros : (n : ℕ) → AllBytes (replicate n 0)
+bytes-zeros n i h = rw (getD-replicate {A = ℕ} n i 0 0 (omega (arith, length-replicate {A = ℕ} n 0))) (omega arith)
+
+pub bytes-le : (w n : ℕ) → AllBytes (le w n)
+unfolding le
+bytes-le zero n i h = absurd (omega arith)
+bytes-le (suc w) n zero h = omega arith
+bytes-le (suc w) n (suc i) h = bytes-le w (n / 256) i (omega arith)
+
+pub bytes-les : (w : ℕ) (ns : List ℕ) → AllBytes (les w ns)
+unfolding les
+bytes-les w [] i h = absurd (omega arith)
+bytes-les w (n ∷ ns) i h = bytes-append (le w n) (les w ns) (bytes-le w n) (bytes-les w ns) i h
 
 -- there and back
 
@@ -139,6 +158,11 @@ fields-les xs ys at w (n ∷ ns) l h =
     let next : length (xs ++ le w n) ≡ at + w = omega (arith, length-append xs (le w n), length-le w n) in
     ap₂ _∷_ (ap (λ (bs : List ℕ). field bs at w) first ∙ field-le xs (les w ns ++ ys) at w n l (h .0))
     (ap (λ (bs : List ℕ). fields bs (at + w) w (length ns)) later ∙ fields-les (xs ++ le w n) ys (at + w) w ns next (h .1))
+
+pub fields-below : (bs : List ℕ) (at w n : ℕ) → AllBytes bs → Each (λ m. m < 256 ^ w) (fields bs at w n)
+unfolding fields Each
+fields-below bs at w zero b = tt
+fields-below bs at w (suc n) b = (rw pow-bytes (field-below bs at w b), fields-below bs (at + w) w n b)
 
 pub getD-fields : (bs : List ℕ) (at w n j : ℕ) → j < n → getD (fields bs at w n) j 0 ≡ field bs (at + w * j) w
 unfolding fields

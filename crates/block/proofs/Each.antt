@@ -26,3 +26,9 @@ pub each-append : {A : Type 0} (P : A → Type 0) (xs ys : List A) → Each P xs
 unfolding Each
 each-append P [] ys e f = f
 each-append P (x ∷ xs) ys e f = (e .0, each-append P xs ys (e .1) f)
+
+-- of what a function gives each has P, if it always has
+pub all-map : {A B : Type 0} (P : B → Type 0) (f : A → B) → ((x : A) → P (f x)) → (xs : List A) → Each P (map f xs)
+unfolding Each
+all-map P f h [] = tt
+all-map P f h (x ∷ xs) = (h x, all-map P f h xs)

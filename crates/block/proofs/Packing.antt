@@ -11,7 +11,7 @@ use lib.Seq.{take-add, drop-drop}
 use borrow.Author.Tests.{eqb-true}
 use Rattle.model.proofs.Lists.{and-split}
 use Rattle.block.specs.Bytes.{AllBytes, Sized, InWidth, le, packed, field, Each}
-use Rattle.block.proofs.Bytes.{length-le, le-field, field-le}
+use Rattle.block.proofs.Bytes.{length-le, le-field, field-le, field-below, pow-bytes, bytes-append, bytes-le}
 
 -- how many bytes numbers of these widths take
 unfoldable pub total : List ℕ → ℕ
@@ -29,6 +29,16 @@ unfolding packed unpacked total
 packed-unpacked bs at [] b h = refl
 packed-unpacked bs at (w ∷ ws) b h =
     rw (take-add, drop-drop) (ap₂ _++_ (le-field bs at w b (omega arith)) (packed-unpacked bs (at + w) ws b (omega arith)))
+
+pub packed-bytes : (ss : List Sized) → AllBytes (packed ss)
+unfolding packed
+packed-bytes [] i h = absurd (omega arith)
+packed-bytes (s ∷ ss) i h = bytes-append (le (s .0) (s .1)) (packed ss) (bytes-le (s .0) (s .1)) (packed-bytes ss) i h
+
+pub unpacked-fits : (bs : List ℕ) (at : ℕ) (ws : List ℕ) → AllBytes bs → Each InWidth (unpacked bs at ws)
+unfolding unpacked Each
+unpacked-fits bs at [] b = tt
+unpacked-fits bs at (w ∷ ws) b = (rw pow-bytes (field-below bs at w b), unpacked-fits bs (at + w) ws b)
 
 -- the number that stands at position p in w bytes, where the first stands at position at; other where none does
 unfoldable pub numberAt : ℕ → List Sized → ℕ → ℕ → ℕ → ℕ

@@ -26,6 +26,7 @@ use Rattle.block.proofs.Blocks.{length-numbered, length-sealed, numbers-back, l
 use Rattle.planvalue.specs.Values.{entryRight, planVerdict}
 use Rattle.planvalue.proofs.Verdicts.{accepted-parts, count-accepted}
 use Rattle.planblock.specs.Plans.{planNumbers, planNamed, planBytes, planOf, planRight, readVerdict, storeVerdict, stored, PlanFits}
+use Rattle.planblock.specs.Statements.{StoredReads, ReadStores}
 use Rattle.planblock.proofs.Storing.{length-named}
 
 module _ (p : Plan) (f : PlanFits p) (e : planVerdict p ≡ Accepted) where
@@ -105,7 +106,7 @@ zeros-after bs = drop-at (fields bs 20 2 (field bs 4 2)) (replicate (64 - field 
 
 -- the same of the calls: what `store` leaves in a buffer, `read` reads back, and what was read is stored as it was
 
-pub stored-reads : (p : Plan) (out : List ℕ) → PlanFits p → storeVerdict p out ≡ Accepted → (readVerdict (stored p out) ≡ Accepted) × (planOf (stored p out) ≡ p)
+pub stored-reads : StoredReads
 unfolding storeVerdict stored
 stored-reads p out f e = rw e (read-back p f (go (eqb (length out) 512) e))
   where
@@ -113,7 +114,7 @@ stored-reads p out f e = rw e (read-back p f (go (eqb (length out) 512) e))
     go true q = q
     go false q = absurd (never-both (sym q))
 
-pub read-stores : (bs out : List ℕ) → readVerdict bs ≡ Accepted → length out ≡ 512 → (storeVerdict (planOf bs) out ≡ Accepted) × (stored (planOf bs) out ≡ bs)
+pub read-stores : ReadStores
 unfolding storeVerdict stored
 read-stores bs out e l =
     let back = store-back bs e in

@@ -1,4 +1,4 @@
--- An accepted file is the bytes of its task.
+-- An accepted file is the bytes of its task, and its task is within the limits.
 -- Assumes nothing.
 use Prim.Native.Nat.{ℕ, zero, suc, _+_, _*_, _<_, _≤_}
 use mathlib.Core.Path.{_≡_, refl, ap}
@@ -9,13 +9,17 @@ use lib.Dec.{leb}
 use lib.ListN.{length, take, drop}
 use lib.Seq.{take-all, take-add, drop-drop}
 use borrow.Author.Tests.{le-leb, lt-leb}
-use Rattle.model.specs.declared.Verdict.the-variants.{Accepted}
+use Rattle.model.specs.Task.{Task}
 use Rattle.model.proofs.Lists.{and-split}
-use Rattle.block.specs.Bytes.{packed, field}
+use Rattle.block.specs.Bytes.{AllBytes, InWidth, packed, les, field, Each}
 use Rattle.block.specs.Blocks.{numbered, sealed}
-use Rattle.block.proofs.Blocks.{block-is}
-use Rattle.taskfile.specs.File.{blockIn, header, basicOf, preempterOf, collect, taskOf, headerNumbers, basicBytes, preempterBytes, namedBytes, wholeBlocks, fileOf, headerInRange, headerRight, entryRight, blockRight, verdict}
-use Rattle.taskfile.proofs.Accepted.{AcceptedFile, accepted, length-collect}
+use Rattle.block.proofs.Bytes.{bytes-drop, bytes-take, bytes-append, bytes-les, field-below, length-fields, fields-below}
+use Rattle.block.proofs.Each.{each-append, all-map}
+use Rattle.block.proofs.Packing.{packed-bytes, unpacked, unpacked-fits}
+use Rattle.block.proofs.Blocks.{block-is, sealed-bytes}
+use Rattle.taskfile.specs.File.{blockIn, header, readsIn, basicOf, preempterOf, collect, taskOf, headerNumbers, entryBytes, basicBytes, preempterBytes, namedBytes, wholeBlocks, fileOf, headerInRange, headerRight, entryRight, blockRight, EntryWithin, Within}
+use Rattle.taskfile.specs.Statements.{TaskThenFile, AcceptedWithin}
+use Rattle.taskfile.proofs.Accepted.{AcceptedFile, accepted, length-collect, block-count, preempter-count}
 
 -- whole blocks
 
@@ -85,5 +89,72 @@ module _ (file : List ℕ) (a : AcceptedFile file) where
       )
       (three-parts file n m (a .long))
 
-pub task-then-file : (file : List ℕ) → verdict file ≡ Accepted → fileOf (taskOf file) ≡ file
+pub task-then-file : TaskThenFile
 task-then-file file e = file-of-task file (accepted file e)
+
+-- the bytes of a task are bytes, whatever its numbers are
+
+whole-bytes : (k : ℕ) (ns : List (List ℕ)) → Each AllBytes ns → AllBytes (wholeBlocks k ns)
+unfolding wholeBlocks Each
+whole-bytes k [] e i h = absurd (omega arith)
+whole-bytes k (n ∷ ns) e i h = bytes-append (sealed (numbered k n)) (wholeBlocks (suc k) ns) (sealed-bytes k n (e .0)) (whole-bytes (suc k) ns (e .1)) i h
+
+entry-all : (kind byte1 x : ℕ) (reads : List ℕ) → AllBytes (entryBytes kind byte1 x reads)
+unfolding entryBytes
+entry-all kind byte1 x reads = bytes-append (packed _) (les 4 reads) (packed-bytes _) (bytes-les 4 reads)
+
+file-bytes : (t : Task) → AllBytes (fileOf t)
+unfolding fileOf namedBytes Each basicBytes preempterBytes
+file-bytes t =
+    whole-bytes 0 (namedBytes t) (
+      packed-bytes (headerNumbers t),
+      each-append AllBytes (map basicBytes (t .blocks)) (map preempterBytes (t .preempters))
+          (all-map AllBytes basicBytes (λ b. entry-all 2 0 (b .time) (b .reads)) (t .blocks))
+          (all-map AllBytes preempterBytes (λ p. entry-all 3 0 (p .id) (p .reads)) (t .preempters)),
+    )
+
+-- so are those of an accepted file, and what is read from them is below its width
+
+collect-each : {A : Type 0} (P : A → Type 0) (f : ℕ → A) (a n : ℕ) → ((i : ℕ) → a ≤ i → i < a + n → P (f i)) → Each P (collect f a n)
+unfolding collect Each
+collect-each P f a zero h = tt
+collect-each P f a (suc n) h = (h a (omega arith) (omega arith), collect-each P f (suc a) n (λ i l u. h i (omega arith) (omega arith)))
+
+entry-within : (bs : List ℕ) → AllBytes bs → field bs 2 2 ≤ 124 → EntryWithin (field bs 4 4) (readsIn bs)
+unfolding readsIn
+entry-within bs b h =
+    record {
+      number = field-below bs 4 4 b;
+      count = rw length-fields h;
+      numbers = fields-below bs 8 4 (field bs 2 2) b;
+    }
+
+module _ (file : List ℕ) (a : AcceptedFile file) where
+  bytes : AllBytes file
+  bytes = rw (file-of-task file a) at (file-bytes (taskOf file))
+
+  bytes-in : (k : ℕ) → AllBytes (blockIn file k)
+  unfolding blockIn
+  bytes-in k = bytes-take 512 (drop (512 * k) file) (bytes-drop (512 * k) file bytes)
+
+  -- the header's numbers are those that stand there
+  header-fits : Each InWidth (headerNumbers (taskOf file))
+  unfolding headerNumbers taskOf header unpacked Each
+  header-fits =
+      rw (block-count file, preempter-count file)
+      (omega arith, (omega arith, unpacked-fits file 2 (map (λ s. s .0) (drop 2 (headerNumbers (taskOf file)))) bytes))
+
+  within : Within (taskOf file)
+  unfolding headerRight taskOf basicOf preempterOf
+  within =
+      record {
+        in-range = and-split (headerInRange (taskOf file)) _ (a .header-right) .0;
+        numbers = header-fits;
+        blocks = collect-each (λ b. EntryWithin (b .time) (b .reads)) (λ k. basicOf (blockIn file k)) 1 (header file .blocks)
+            (λ k l u. entry-within (blockIn file k) (bytes-in k) (a .count-most k l (omega arith)));
+        preempters = collect-each (λ p. EntryWithin (p .id) (p .reads)) (λ k. preempterOf (blockIn file k)) (1 + header file .blocks) (header file .preempters)
+            (λ k l u. entry-within (blockIn file k) (bytes-in k) (a .count-most k (omega arith) (omega arith)));
+      }
+
+pub accepted-within : AcceptedWithin
+accepted-within file e = within file (accepted file e)

@@ -20,6 +20,7 @@ use Rattle.block.proofs.Each.{each-at, each-map, each-append}
 use Rattle.block.proofs.Packing.{numberAt, numbers-read}
 use Rattle.block.proofs.Blocks.{length-numbered, length-sealed, afterNamed, sealed-named, numbers-back, list-back, checksum-sealed, body-sealed, nowhere-lowest}
 use Rattle.taskfile.specs.File.{blockIn, blocksIn, header, readsIn, basicOf, preempterOf, collect, taskOf, headerNumbers, entryBytes, basicBytes, preempterBytes, namedBytes, wholeBlocks, fileOf, lengthRight, sumRight, headerInRange, headerRight, entryRight, blockRight, lengthRow, checksumRow, headerRow, countRow, blockRow, verdict, EntryWithin, Within}
+use Rattle.taskfile.specs.Statements.{FileThenTask}
 use Rattle.taskfile.proofs.Accepted.{in-range, length-collect, getD-collect}
 
 -- named bytes that a block has room for
@@ -236,5 +237,5 @@ module _ (t : Task) (w : Within t) where
         nowhere-lowest (blockRight (fileOf t)) 1 (blockCount t + length (t .preempters)) block-right,
       )
 
-pub file-then-task : (t : Task) → Within t → (verdict (fileOf t) ≡ Accepted) × (taskOf (fileOf t) ≡ t)
+pub file-then-task : FileThenTask
 file-then-task t w = (accepted-file t w, task-of-file t w)

@@ -10,7 +10,7 @@ use native.Mathlib.Omega.{arith}
 use lib.Dec.{eqb, leb, ltb}
 use lib.ListN.{length, getD}
 use borrow.Author.Tests.{eqb-true, leb-true, ltb-true}
-use Rattle.model.specs.Task.{Block, blockCount}
+use Rattle.model.specs.Task.{Block, Task, blockCount}
 use Rattle.model.specs.Lines.{preempterReads, blockAt}
 use Rattle.model.specs.declared.Place.{Place}
 use Rattle.model.specs.declared.Place.the-variants.{Nowhere, At}
@@ -48,9 +48,13 @@ pub record AcceptedFile (file : List ℕ) : Type 0 where
   pub blocks-right : (k : ℕ) → 1 ≤ k → k ≤ header file .blocks + header file .preempters → blockRight file k ≡ true
   pub count-most : (k : ℕ) → 1 ≤ k → k ≤ header file .blocks + header file .preempters → field (blockIn file k) 2 2 ≤ 124
 
-pub in-range : (n m s : ℕ) → countsInRange n m s ≡ true → (1 ≤ n) × (n ≤ 64) × (m ≤ 32) × (1 ≤ s) × (s ≤ 512)
-unfolding countsInRange
-in-range n m s e =
+pub in-range : (t : Task) → headerInRange t ≡ true
+    → (1 ≤ blockCount t) × (blockCount t ≤ 64) × (length (t .preempters) ≤ 32) × (1 ≤ t .lineCount) × (t .lineCount ≤ 512)
+unfolding headerInRange countsInRange
+in-range t e =
+    let n : ℕ = blockCount t in
+    let m : ℕ = length (t .preempters) in
+    let s : ℕ = t .lineCount in
     let a = and-split (leb 1 n && leb n 64 && leb m 32 && leb 1 s) (leb s 512) e in
     let b = and-split (leb 1 n && leb n 64 && leb m 32) (leb 1 s) (a .0) in
     let c = and-split (leb 1 n && leb n 64) (leb m 32) (b .0) in
@@ -108,7 +112,7 @@ module _ (file : List ℕ) where
   reads-at i h = rw (add-comm i 1) (ap (λ (b : Block). b .reads) (block-at i h))
 
 pub accepted : (file : List ℕ) → verdict file ≡ Accepted → AcceptedFile file
-unfolding verdict lengthRow checksumRow headerRow countRow blockRow headerRight headerInRange blockRight entryRight blocksIn
+unfolding verdict lengthRow checksumRow headerRow countRow blockRow headerRight blockRight entryRight blocksIn
 accepted file e =
     let n : ℕ = header file .blocks in
     let m : ℕ = header file .preempters in
@@ -119,7 +123,7 @@ accepted file e =
     let whole = whole-blocks (length file) (row-holds _ (lengthRight (length file)) (size .0)) in
     let counted : length file / 512 ≡ 1 + n + m = eqb-true (blocksIn file) (1 + n + m) (row-holds _ (eqb (blocksIn file) (1 + n + m)) (count .0)) in
     let right : headerRight file ≡ true = row-holds _ (headerRight file) (head .0) in
-    let range = in-range n m (taskOf file .lineCount) (rw (block-count file, preempter-count file) at (and-split (headerInRange (taskOf file)) _ right .0)) in
+    let range = rw (block-count file, preempter-count file) at (in-range (taskOf file) (and-split (headerInRange (taskOf file)) _ right .0)) in
     let all : (k : ℕ) → 1 ≤ k → k ≤ n + m → blockRight file k ≡ true =
     λ k l u. lowest-nowhere (blockRight file) 1 (n + m) (row-nowhere _ (lowestFrom (blockRight file) 1 (n + m)) (count .1)) k l (omega arith) in
     record {

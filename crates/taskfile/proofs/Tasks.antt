@@ -19,7 +19,7 @@ use Rattle.block.proofs.Bytes.{length-les}
 use Rattle.block.proofs.Each.{each-at, each-map, each-append}
 use Rattle.block.proofs.Packing.{numberAt, numbers-read}
 use Rattle.block.proofs.Blocks.{length-numbered, length-sealed, afterNamed, sealed-named, numbers-back, list-back, checksum-sealed, body-sealed, nowhere-lowest}
-use Rattle.taskfile.specs.File.{blockIn, blocksIn, header, readsIn, basicOf, preempterOf, collect, taskOf, headerNumbers, entryBytes, basicBytes, preempterBytes, namedBytes, wholeBlocks, fileOf, lengthRight, sumRight, headerInRange, headerRight, entryRight, blockRight, lengthRow, checksumRow, headerRow, countRow, blockRow, verdict, EntryWithin, Within}
+use Rattle.taskfile.specs.File.{blockIn, blocksIn, header, readsIn, basicOf, preempterOf, collect, taskOf, headerNumbers, entryBytes, basicBytes, preempterBytes, namedBytes, wholeBlocks, fileOf, lengthRight, sumRight, headerRight, entryRight, blockRight, lengthRow, checksumRow, headerRow, countRow, blockRow, verdict, EntryWithin, Within}
 use Rattle.taskfile.specs.Statements.{FileThenTask}
 use Rattle.taskfile.proofs.Accepted.{in-range, length-collect, getD-collect}
 
@@ -184,9 +184,9 @@ module _ (t : Task) (w : Within t) where
   count-right = omega (arith, long)
 
   length-right : lengthRight (length (fileOf t)) ≡ true
-  unfolding lengthRight headerInRange
+  unfolding lengthRight
   length-right =
-      let range = in-range (blockCount t) (length (t .preempters)) (t .lineCount) (w .in-range) in
+      let range = in-range t (w .in-range) in
       let n : ℕ = 512 * (1 + blockCount t + length (t .preempters)) in
       rw (long, lt-ltb 0 n (omega arith), eq-eqb (n % 512) 0 (omega arith), le-leb n 49664 (omega arith))
 

@@ -1,28 +1,14 @@
 // Plan blocks by example: what storing and reading answer, a line for each case.
-use libc::STDOUT_FILENO;
 use model::Plan;
 use model::Verdict;
 ghost use mathlib.Core.Path.{_≡_};
 ghost use Prim.Native.Nat.{_≤_, _<_};
 ghost use Rattle.planvalue.specs.Values.{planVerdict};
 
-fn print(label: &[u8], n: u64) {
-    io::write_all(STDOUT_FILENO, label);
-    io::print_decimal(STDOUT_FILENO, n);
-}
-
 fn show(case: &[u8], verdict: Verdict) {
-    io::write_all(STDOUT_FILENO, case);
-    match verdict {
-        Verdict::Accepted => {
-            io::write_all(STDOUT_FILENO, b": accepted\n");
-        }
-        Verdict::Refused(refusal) => {
-            print(b": refused ", answers::refusal_number(refusal) as u64);
-            print(b" at ", answers::refusal_place(refusal) as u64);
-            io::write_all(STDOUT_FILENO, b"\n");
-        }
-    }
+    desk::print(case);
+    desk::print(b": ");
+    desk::print_verdict(verdict);
 }
 
 fn wide(x: u16) -> u64 {
@@ -30,15 +16,15 @@ fn wide(x: u16) -> u64 {
 }
 
 fn show_plan(case: &[u8], plan: Plan) {
-    io::write_all(STDOUT_FILENO, case);
-    print(b": N ", plan.blocks as u64);
-    print(b", id ", plan.id as u64);
-    print(b", count ", plan.count as u64);
-    print(b", lines ", plan.lines as u64);
-    print(b", cost ", plan.cost);
-    print(b", points ", wide(plan.points[0]));
-    print(b" ", wide(plan.points[1]));
-    io::write_all(STDOUT_FILENO, b"\n");
+    desk::print(case);
+    desk::print_field(b": N ", plan.blocks as u64);
+    desk::print_field(b", id ", plan.id as u64);
+    desk::print_field(b", count ", plan.count as u64);
+    desk::print_field(b", lines ", plan.lines as u64);
+    desk::print_field(b", cost ", plan.cost);
+    desk::print_field(b", points ", wide(plan.points[0]));
+    desk::print_field(b" ", wide(plan.points[1]));
+    desk::end_line();
 }
 
 // A plan with these first three entries.
@@ -196,7 +182,7 @@ fn entries() {
         store_into(with_last(), 512),
     );
     if kept(with_last()) {
-        io::write_all(STDOUT_FILENO, b"the refused store left the buffer\n");
+        desk::print(b"the refused store left the buffer\n");
     }
 }
 

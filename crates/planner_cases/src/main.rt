@@ -1,56 +1,32 @@
 // What the planner's calls answer of each task file that the arguments name: its plan, and for a task of at most four blocks the useful
 // lines of each edge, the loaded lines and length of each region, and the price of some lists.
 ghost use Prim.Native.Nat.{_≤_};
-use libc::STDOUT_FILENO;
 use lineset::LineSet;
 use model::Plan;
 use model::Refusal;
 use model::Verdict;
 
-fn print_refusal(why: Refusal) {
-    io::write_all(STDOUT_FILENO, b" refused ");
-    io::print_decimal(STDOUT_FILENO, answers::refusal_number(why) as u64);
-    io::write_all(STDOUT_FILENO, b" at ");
-    io::print_decimal(STDOUT_FILENO, answers::refusal_place(why) as u64);
-    io::write_all(STDOUT_FILENO, b"\n");
-}
-
-fn print_number(n: u64) {
-    io::write_all(STDOUT_FILENO, b" ");
-    io::print_decimal(STDOUT_FILENO, n);
-}
-
-fn print_point(point: u16) {
-    print_number(point as u64);
+fn print_refusal(refusal: Refusal) {
+    desk::print(b" ");
+    desk::print_refusal(refusal);
 }
 
 // The first points, or none.
 fn print_points(points: &[u16], count: usize) {
     if count == 0 {
-        io::write_all(STDOUT_FILENO, b" none");
+        desk::print(b" none");
     }
-    let mut i = 0;
-    while i < points.len() {
-        if i == count {
-            return;
-        }
-        print_point(points[i]);
-        i += 1;
-    }
+    desk::print_points(points, count);
 }
 
 fn print_line(set: LineSet, line: usize) {
     if set.contains(line) {
-        print_number(line as u64);
+        desk::print_field(b" ", line as u64);
     }
 }
 
-// The lines of a set, rising, or none.
-fn print_lines(set: LineSet) {
-    io::write_all(STDOUT_FILENO, b" lines");
-    if set.size() == 0 {
-        io::write_all(STDOUT_FILENO, b" none");
-    }
+// The lines of a set, rising, each after a space.
+fn print_each_line(set: LineSet) {
     let mut line = 0;
     while line < 512 {
         print_line(set, line);
@@ -58,17 +34,24 @@ fn print_lines(set: LineSet) {
     }
 }
 
+// The lines of a set, or none.
+fn print_lines(set: LineSet) {
+    desk::print(b" lines");
+    if set.size() == 0 {
+        desk::print(b" none");
+    }
+    print_each_line(set);
+}
+
 fn print_lines_and_cost(lines: u64, cost: u64) {
-    io::write_all(STDOUT_FILENO, b" lines");
-    print_number(lines);
-    io::write_all(STDOUT_FILENO, b" cost");
-    print_number(cost);
-    io::write_all(STDOUT_FILENO, b"\n");
+    desk::print_field(b" lines ", lines);
+    desk::print_field(b" cost ", cost);
+    desk::end_line();
 }
 
 fn print_plan(plan: Plan) {
     let points = plan.points;
-    io::write_all(STDOUT_FILENO, b" points");
+    desk::print(b" points");
     print_points(&points, plan.count as usize);
     print_lines_and_cost(plan.lines as u64, plan.cost);
 }
@@ -77,58 +60,55 @@ fn show_plan(file: &[u8]) {
     let found = planner::plan(file);
     let verdict = found.verdict;
     let plan = found.plan;
-    io::write_all(STDOUT_FILENO, b"plan");
+    desk::print(b"plan");
     match verdict {
         Verdict::Accepted => print_plan(plan),
-        Verdict::Refused(why) => print_refusal(why),
+        Verdict::Refused(refusal) => print_refusal(refusal),
     }
 }
 
 fn print_useful(lines: LineSet) {
     print_lines(lines);
-    io::write_all(STDOUT_FILENO, b"\n");
+    desk::end_line();
 }
 
 fn show_useful(file: &[u8], k: usize) {
     let found = planner::useful(file, k);
     let verdict = found.verdict;
     let lines = found.lines;
-    io::write_all(STDOUT_FILENO, b"useful");
-    print_number(k as u64);
+    desk::print_field(b"useful ", k as u64);
     match verdict {
         Verdict::Accepted => print_useful(lines),
-        Verdict::Refused(why) => print_refusal(why),
+        Verdict::Refused(refusal) => print_refusal(refusal),
     }
 }
 
 fn print_region(loaded: LineSet, length: u64) {
     print_lines(loaded);
-    io::write_all(STDOUT_FILENO, b" length");
-    print_number(length);
-    io::write_all(STDOUT_FILENO, b"\n");
+    desk::print_field(b" length ", length);
+    desk::end_line();
 }
 
 fn show_region(file: &[u8], a: usize, b: usize) {
     let found = planner::region(file, a, b);
     let verdict = found.verdict;
     let loaded = found.loaded;
-    io::write_all(STDOUT_FILENO, b"region");
-    print_number(a as u64);
-    print_number(b as u64);
+    desk::print_field(b"region ", a as u64);
+    desk::print_field(b" ", b as u64);
     match verdict {
         Verdict::Accepted => print_region(loaded, found.length),
-        Verdict::Refused(why) => print_refusal(why),
+        Verdict::Refused(refusal) => print_refusal(refusal),
     }
 }
 
 fn show_price(file: &[u8], points: &[u16]) {
     let price = planner::price(file, points);
     let verdict = price.verdict;
-    io::write_all(STDOUT_FILENO, b"list");
+    desk::print(b"list");
     print_points(points, points.len());
     match verdict {
         Verdict::Accepted => print_lines_and_cost(price.lines, price.cost),
-        Verdict::Refused(why) => print_refusal(why),
+        Verdict::Refused(refusal) => print_refusal(refusal),
     }
 }
 
@@ -201,27 +181,17 @@ fn show_task(file: &[u8]) {
     show_small(file, taskfile::block_count(file));
 }
 
-// What is answered of the bytes that a descriptor reads.
-fn show_file(fd: i32) {
-    let mut file = io::large_buffer();
-    let n = io::read_full(fd, &mut file);
-    show_task(&file[..n]);
-}
-
 // The name of the file that argument i names, and what is answered of it.
 fn show_case(i: usize) {
-    let mut name = io::buffer();
-    let n = os::arg(i, &mut name);
-    let fd = os::open_read(&name[..n]);
-    if fd < 0 {
-        os::fail(&name[..n]);
-        return;
+    let mut file = io::large_buffer();
+    let read = desk::read_named(i, &mut file);
+    let n = read.count;
+    if read.found {
+        desk::print(b"file ");
+        desk::print_argument(i);
+        desk::end_line();
+        show_task(&file[..n]);
     }
-    io::write_all(STDOUT_FILENO, b"file ");
-    io::write_all(STDOUT_FILENO, &name[..n]);
-    io::write_all(STDOUT_FILENO, b"\n");
-    show_file(fd);
-    libc::close(fd);
 }
 
 fn main() {

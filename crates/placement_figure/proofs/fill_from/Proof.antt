@@ -1,17 +1,21 @@
--- `placement_figure::fill_from` is safe and ends: b is at most 6, and each block adds less than 256 to the time. Assumes nothing.
+-- `placement_figure::fill_from` is safe and ends: each block adds less than 256 to the time. Assumes nothing.
 use Prim.Native.Nat.{_≤_, _*_, _-_}
+use lib.ListN.{length}
 use borrow.Author.Needs.{needs}
 use Rattle.placement_figure.proofs.fill_from.Statement.{statement}
 use Rattle.placement_figure.proofs.fill_from.Tie as tie
 
 abbrev Inv-loop : tie.InvT-loop
-Inv-loop table₀ a time₀ b₀ table time b = (b ≤ 6) × (time ≤ 256 * b)
+Inv-loop table₀ a costs time₀ i₀ table time i = (i ≤ length costs) × (time ≤ 256 * i)
 
 abbrev μ-loop : tie.MeasureT-loop
-μ-loop table₀ a time₀ b₀ table time b = 6 - b
+μ-loop table₀ a costs time₀ i₀ table time i = length costs - i
 
 loop-holds : tie.Need-loop-holds Inv-loop μ-loop
 loop-holds c = search needs
+
+add-b : tie.Need-add-b Inv-loop μ-loop
+add-b c = search needs
 
 array-read-wide : tie.Need-array-read-wide Inv-loop μ-loop
 array-read-wide c = search needs
@@ -22,14 +26,8 @@ wide-requires c κs = search needs
 add-time : tie.Need-add-time Inv-loop μ-loop
 add-time c = search needs
 
-mul-wide : tie.Need-mul-wide Inv-loop μ-loop
-mul-wide c = search needs
-
-add-wide : tie.Need-add-wide Inv-loop μ-loop
-add-wide c = search needs
-
-array-read-wide-2 : tie.Need-array-read-wide-2 Inv-loop μ-loop
-array-read-wide-2 c = search needs
+shared-slice-read-wide : tie.Need-shared-slice-read-wide Inv-loop μ-loop
+shared-slice-read-wide c = search needs
 
 wide-requires-2 : tie.Need-wide-requires-2 Inv-loop μ-loop
 wide-requires-2 c κs = search needs
@@ -49,8 +47,8 @@ mul-table-2 c = search needs
 element-write-table : tie.Need-element-write-table Inv-loop μ-loop
 element-write-table c = search needs
 
-add-b : tie.Need-add-b Inv-loop μ-loop
-add-b c = search needs
+add-i : tie.Need-add-i Inv-loop μ-loop
+add-i c = search needs
 
 loop-less : tie.Need-loop-less Inv-loop μ-loop
 loop-less c = search needs
@@ -68,19 +66,18 @@ fill-from-spec =
     Inv-loop
     μ-loop
     loop-holds
+    add-b
     array-read-wide
     wide-requires
     add-time
-    mul-wide
-    add-wide
-    array-read-wide-2
+    shared-slice-read-wide
     wide-requires-2
     entry-requires
     mul-table
     add-table
     mul-table-2
     element-write-table
-    add-b
+    add-i
     loop-less
     loop-again
     returns)

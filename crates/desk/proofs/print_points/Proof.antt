@@ -1,21 +1,15 @@
--- `planner_cases::print_points` is safe and ends: i is at most the length. Assumes nothing.
+-- `desk::print_points` is safe and ends: i is at most the length. Assumes nothing.
 use Prim.Native.Nat.{_≤_, _-_}
 use borrow.Author.Needs.{needs}
 use lib.ListN.{length}
-use Rattle.planner_cases.proofs.print_points.Statement.{statement}
-use Rattle.planner_cases.proofs.print_points.Tie as tie
+use Rattle.desk.proofs.print_points.Statement.{statement}
+use Rattle.desk.proofs.print_points.Tie as tie
 
 abbrev Inv-loop : tie.InvT-loop
 Inv-loop points count i₀ i = i ≤ length points
 
 abbrev μ-loop : tie.MeasureT-loop
 μ-loop points count i₀ i = length points - i
-
-slice-aggregate-write-all : tie.Need-slice-aggregate-write-all Inv-loop μ-loop
-slice-aggregate-write-all c = search needs
-
-write-all-requires : tie.Need-write-all-requires Inv-loop μ-loop
-write-all-requires c κs = search needs
 
 loop-holds : tie.Need-loop-holds Inv-loop μ-loop
 loop-holds c = search needs
@@ -50,8 +44,6 @@ print-points-spec =
     (tie.spec
     Inv-loop
     μ-loop
-    slice-aggregate-write-all
-    write-all-requires
     loop-holds
     returns
     mul-print-point

@@ -1,0 +1,156 @@
+// What the programs share: numbers and files that the arguments name, and the lines that are printed.
+ghost use mathlib.Core.Path.{_≡_};
+ghost use Rattle.io.specs.Counts.{Counts};
+ghost use Rattle.desk.specs.Decimals.{withDigit, decimalOf, AtMost};
+use libc::STDERR_FILENO;
+use libc::STDIN_FILENO;
+use libc::STDOUT_FILENO;
+use model::Refusal;
+use model::Verdict;
+
+// What bytes say in decimal digits.
+pub enum Decimal {
+    Number(u64),
+    Nothing,
+}
+
+// A file in a lent buffer: how many bytes it has, 0 where there is no such file.
+pub struct FileRead {
+    pub found: bool,
+    pub count: usize,
+}
+
+// A number with one digit more at its end.
+fn with_digit(n: u64, byte: u8) -> Decimal
+    ensures { λ r. ⌜ r ≡ withDigit n byte ⌝ }
+{
+    if byte < b'0' {
+        return Decimal::Nothing;
+    }
+    if b'9' < byte {
+        return Decimal::Nothing;
+    }
+    let digit = (byte - b'0') as u64;
+    if (0xffff_ffff_ffff_ffff - digit) / 10 < n {
+        return Decimal::Nothing;
+    }
+    Decimal::Number(n * 10 + digit)
+}
+
+// The number that bytes say: digits alone, and a number below 2^64.
+pub fn decimal_of(text: &[u8]) -> Decimal
+    ensures { λ r. ⌜ r ≡ decimalOf (now (text .entry)) ⌝ }
+{
+    if text.len() == 0 {
+        return Decimal::Nothing;
+    }
+    let mut n = 0;
+    let mut i = 0;
+    while i < text.len() {
+        let Decimal::Number(more) = with_digit(n, text[i]) else {
+            return Decimal::Nothing;
+        };
+        n = more;
+        i += 1;
+    }
+    Decimal::Number(n)
+}
+
+// Argument i as a number of at most so much; an argument that is missing or longer than 4,096 bytes says nothing.
+pub fn argument(i: usize, most: u64) -> Decimal
+    ensures { λ r. ⌜ AtMost most r ⌝ }
+{
+    let mut text = io::buffer();
+    let n = os::arg(i, &mut text);
+    let Decimal::Number(number) = decimal_of(&text[..n]) else {
+        return Decimal::Nothing;
+    };
+    if most < number {
+        return Decimal::Nothing;
+    }
+    Decimal::Number(number)
+}
+
+// Reads what stands on standard input into a buffer, and answers how many bytes.
+pub fn read_input(buffer: &mut [u8]) -> usize
+    ensures { λ r. ⌜ Counts r (now (buffer .exit)) ⌝ }
+{
+    io::read_full(STDIN_FILENO, buffer)
+}
+
+// Reads the file that argument i names into a buffer, or says on standard error why it is not read.
+pub fn read_named(i: usize, buffer: &mut [u8]) -> FileRead
+    ensures { λ r. ⌜ Counts (r .count) (now (buffer .exit)) ⌝ }
+{
+    let mut name = io::buffer();
+    let n = os::arg(i, &mut name);
+    let fd = os::open_read(&name[..n]);
+    if fd < 0 {
+        os::fail(&name[..n]);
+        return FileRead {
+            found: false,
+            count: 0,
+        };
+    }
+    let count = io::read_full(fd, buffer);
+    libc::close(fd);
+    FileRead { found: true, count }
+}
+
+pub fn print(text: &[u8]) {
+    io::write_all(STDOUT_FILENO, text);
+}
+
+pub fn end_line() {
+    print(b"\n");
+}
+
+pub fn print_argument(i: usize) {
+    let mut text = io::buffer();
+    let n = os::arg(i, &mut text);
+    print(&text[..n]);
+}
+
+// A name and a number.
+pub fn print_field(name: &[u8], n: u64) {
+    print(name);
+    io::print_decimal(STDOUT_FILENO, n);
+}
+
+fn print_point(point: u16) {
+    print_field(b" ", point as u64);
+}
+
+// The first points of a list, each after a space.
+pub fn print_points(points: &[u16], count: usize) {
+    let mut i = 0;
+    while i < points.len() {
+        if i == count {
+            return;
+        }
+        print_point(points[i]);
+        i += 1;
+    }
+}
+
+// The line of a refusal.
+pub fn print_refusal(refusal: Refusal) {
+    print_field(b"refused ", answers::refusal_number(refusal) as u64);
+    print_field(b" at ", answers::refusal_place(refusal) as u64);
+    end_line();
+}
+
+// The line of a verdict that has no value beside it.
+pub fn print_verdict(verdict: Verdict) {
+    match verdict {
+        Verdict::Accepted => print(b"accepted\n"),
+        Verdict::Refused(refusal) => print_refusal(refusal),
+    }
+}
+
+// The line of a program that was started in another way than it takes.
+pub fn print_usage(usage: &[u8]) {
+    io::write_all(STDERR_FILENO, b"usage: ");
+    io::write_all(STDERR_FILENO, usage);
+    io::write_all(STDERR_FILENO, b"\n");
+}

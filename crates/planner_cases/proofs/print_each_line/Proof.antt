@@ -1,0 +1,34 @@
+-- `planner_cases::print_each_line` is safe and ends: the line is at most 512. Assumes nothing.
+use Prim.Native.Nat.{_≤_, _-_}
+use borrow.Author.Needs.{needs}
+use Rattle.planner_cases.proofs.print_each_line.Statement.{statement}
+use Rattle.planner_cases.proofs.print_each_line.Tie as tie
+
+abbrev Inv-loop : tie.InvT-loop
+Inv-loop set line₀ line = line ≤ 512
+
+abbrev μ-loop : tie.MeasureT-loop
+μ-loop set line₀ line = 512 - line
+
+loop-holds : tie.Need-loop-holds Inv-loop μ-loop
+loop-holds c = search needs
+
+print-line-requires : tie.Need-print-line-requires Inv-loop μ-loop
+print-line-requires c κs = search needs
+
+add-line : tie.Need-add-line Inv-loop μ-loop
+add-line c = search needs
+
+loop-less : tie.Need-loop-less Inv-loop μ-loop
+loop-less c = search needs
+
+loop-again : tie.Need-loop-again Inv-loop μ-loop
+loop-again c = search needs
+
+returns : tie.Need-returns Inv-loop μ-loop
+returns c = search needs
+
+pub print-each-line-spec : {M : Type 1} → statement M
+print-each-line-spec =
+    tie.close
+    (tie.spec Inv-loop μ-loop loop-holds print-line-requires add-line loop-less loop-again returns)

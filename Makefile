@@ -1,9 +1,9 @@
 # make, make lib    prove the planner and build its static library
-# make parts        that, the tests' library and the program plan
+# make parts        that, the tests' library and the programs plan and price
 # make example      build the C example and hold what it prints on File Seven to its file 'expected'
 # make release      the library, its header and how to link them, in one archive
 # make test-c       unpack the release and call it from C
-# make test-plan    prove the program plan and run it on a file that no list of points fits
+# make test-desk    prove the programs plan and price and hold what they print to document 01
 # make opponent     compare the C calls with the independent implementation in tests/; SEED, COUNT and CASE may be given
 # make bench        time the calls against plain Rust
 # make clean        remove all that was built
@@ -14,19 +14,19 @@ VERSION := $(shell cat VERSION)
 SOURCES := crates.txt $(shell find crates -name '*.rt' -o -name '*.antt')
 LIB := target/staticlib/libfirmware.a
 PROBE := target/staticlib/libprobe.a
-PLAN := target/bin/plan
+PROGRAMS := target/bin/plan target/bin/price
 NAME := preempt-$(VERSION)
 RELEASE := target/release/$(NAME)
 UNPACKED := target/test-c/$(NAME)
 
-.PHONY: lib parts example release test-c test-plan opponent bench clean
+.PHONY: lib parts example release test-c test-desk opponent bench clean
 .DELETE_ON_ERROR:
 # Two calls of rt at once would overwrite each other's notes in target/.
 .NOTPARALLEL:
 
 lib: $(LIB)
 
-parts: $(LIB) $(PROBE) $(PLAN)
+parts: $(LIB) $(PROBE) $(PROGRAMS)
 
 # rt check proves crates side by side where it can; rt staticlib does not.
 target/planner.proved: $(SOURCES)
@@ -36,8 +36,8 @@ target/planner.proved: $(SOURCES)
 $(LIB) $(PROBE): target/staticlib/lib%.a: target/planner.proved
 	rt staticlib $*
 
-$(PLAN): target/planner.proved
-	rt check plan
+$(PROGRAMS): target/bin/%: target/planner.proved
+	rt check $*
 	touch $@
 
 target/example/firmware: examples/firmware/main.c include/preempt.h $(LIB)
@@ -69,8 +69,8 @@ test-c: $(RELEASE).tar.gz
 	$(CC) $(CFLAGS) -I$(UNPACKED)/include tests/c/release.c $(UNPACKED)/lib/libfirmware.a -o target/test-c/release
 	ulimit -s 128 && env -i target/test-c/release examples/firmware/seven.bin
 
-test-plan: $(PLAN)
-	test "$$($(PLAN) <crates/planner_cases/data/seven-29)" = 'refused 6 at 0'
+test-desk: $(PROGRAMS)
+	tests/desk.sh
 
 opponent: $(LIB) $(PROBE)
 	PLANNER_LIB_DIR=$(CURDIR)/target/staticlib CARGO_TARGET_DIR=$(CURDIR)/target/opponent \

@@ -1,5 +1,6 @@
 // What the programs share: numbers and files that the arguments name, and the lines that are printed.
 ghost use mathlib.Core.Path.{_≡_};
+ghost use lib.ListN.{take};
 ghost use Rattle.io.specs.Counts.{Counts};
 ghost use Rattle.desk.specs.Decimals.{withDigit, decimalOf, AtMost};
 use libc::STDERR_FILENO;
@@ -71,6 +72,17 @@ pub fn argument(i: usize, most: u64) -> Decimal
     Decimal::Number(number)
 }
 
+// The first points of a list; all where it has no more.
+pub fn first(points: &[u16], count: usize) -> &[u16]
+    ensures { λ r. ⌜ now r ≡ take count (now (points .entry)) ⌝ }
+{
+    if count <= points.len() {
+        &points[..count]
+    } else {
+        points
+    }
+}
+
 // Reads what stands on standard input into a buffer, and answers how many bytes.
 pub fn read_input(buffer: &mut [u8]) -> usize
     ensures { λ r. ⌜ Counts r (now (buffer .exit)) ⌝ }
@@ -121,13 +133,10 @@ fn print_point(point: u16) {
     print_field(b" ", point as u64);
 }
 
-// The first points of a list, each after a space.
-pub fn print_points(points: &[u16], count: usize) {
+// Points, each after a space.
+pub fn print_points(points: &[u16]) {
     let mut i = 0;
     while i < points.len() {
-        if i == count {
-            return;
-        }
         print_point(points[i]);
         i += 1;
     }

@@ -54,7 +54,7 @@ fn print_placement(p: Placement, time: u64) {
     if p.found {
         let points = p.points;
         desk::print(b"points");
-        desk::print_points(&points, p.count);
+        desk::print_points(desk::first(&points, p.count));
         desk::print_field(b" cost ", p.cost);
         desk::print_field(b" with times ", std::num::wrapping_add_u64(p.cost, time));
         desk::end_line();

@@ -16,7 +16,7 @@ fn print_points(points: &[u16], count: usize) {
     if count == 0 {
         desk::print(b" none");
     }
-    desk::print_points(points, count);
+    desk::print_points(desk::first(points, count));
 }
 
 fn print_line(set: LineSet, line: usize) {

@@ -1,21 +1,18 @@
--- `desk::print_points` is safe and ends: i is at most the length. Assumes nothing.
+-- `desk::print_points` is safe and ends: the index is at most the length. Assumes nothing.
 use Prim.Native.Nat.{_≤_, _-_}
-use borrow.Author.Needs.{needs}
 use lib.ListN.{length}
+use borrow.Author.Needs.{needs}
 use Rattle.desk.proofs.print_points.Statement.{statement}
 use Rattle.desk.proofs.print_points.Tie as tie
 
 abbrev Inv-loop : tie.InvT-loop
-Inv-loop points count i₀ i = i ≤ length points
+Inv-loop points i₀ i = i ≤ length points
 
 abbrev μ-loop : tie.MeasureT-loop
-μ-loop points count i₀ i = length points - i
+μ-loop points i₀ i = length points - i
 
 loop-holds : tie.Need-loop-holds Inv-loop μ-loop
 loop-holds c = search needs
-
-returns : tie.Need-returns Inv-loop μ-loop
-returns c = search needs
 
 mul-print-point : tie.Need-mul-print-point Inv-loop μ-loop
 mul-print-point c = search needs
@@ -35,8 +32,8 @@ loop-less c = search needs
 loop-again : tie.Need-loop-again Inv-loop μ-loop
 loop-again c = search needs
 
-returns-2 : tie.Need-returns-2 Inv-loop μ-loop
-returns-2 c = search needs
+returns : tie.Need-returns Inv-loop μ-loop
+returns c = search needs
 
 pub print-points-spec : {M : Type 1} → statement M
 print-points-spec =
@@ -45,11 +42,10 @@ print-points-spec =
     Inv-loop
     μ-loop
     loop-holds
-    returns
     mul-print-point
     shared-slice-read-print-point
     print-point-requires
     add-i
     loop-less
     loop-again
-    returns-2)
+    returns)

@@ -1,18 +1,16 @@
--- `plan::print_regions` is safe and ends: the index stays within the count, which is at most 64.
--- Assumes nothing.
+-- `report::print_regions` is safe and ends: the index is at most the count of the points. Assumes nothing.
 use Prim.Native.Nat.{_≤_, _-_}
+use native.Mathlib.Omega.{arith}
+use lib.ListN.{length}
 use borrow.Author.Needs.{needs}
-use Rattle.plan.proofs.print_regions.Statement.{statement}
-use Rattle.plan.proofs.print_regions.Tie as tie
+use Rattle.report.proofs.print_regions.Statement.{statement}
+use Rattle.report.proofs.print_regions.Tie as tie
 
 abbrev Inv-loop : tie.InvT-loop
-Inv-loop file plan points count a₀ i₀ a i = i ≤ count
+Inv-loop file points n a₀ i₀ a i = i ≤ length points
 
 abbrev μ-loop : tie.MeasureT-loop
-μ-loop file plan points count a₀ i₀ a i = count - i
-
-within-requires : tie.Need-within-requires Inv-loop μ-loop
-within-requires c κs = search needs
+μ-loop file points n a₀ i₀ a i = length points - i
 
 loop-holds : tie.Need-loop-holds Inv-loop μ-loop
 loop-holds c = search needs
@@ -20,11 +18,11 @@ loop-holds c = search needs
 mul-b : tie.Need-mul-b Inv-loop μ-loop
 mul-b c = search needs
 
-array-read-b : tie.Need-array-read-b Inv-loop μ-loop
-array-read-b c = search needs
+shared-slice-read-b : tie.Need-shared-slice-read-b Inv-loop μ-loop
+shared-slice-read-b c = search needs
 
 cast-b : tie.Need-cast-b Inv-loop μ-loop
-cast-b c = search needs
+cast-b c = omega (arith, c .shared-slice-known3 .given (c .before .before .loop .i))
 
 print-region-requires : tie.Need-print-region-requires Inv-loop μ-loop
 print-region-requires c κs = search needs
@@ -38,9 +36,6 @@ loop-less c = search needs
 loop-again : tie.Need-loop-again Inv-loop μ-loop
 loop-again c = search needs
 
-cast-print-region : tie.Need-cast-print-region Inv-loop μ-loop
-cast-print-region c = search needs
-
 print-region-requires-2 : tie.Need-print-region-requires-2 Inv-loop μ-loop
 print-region-requires-2 c κs = search needs
 
@@ -53,15 +48,13 @@ print-regions-spec =
     (tie.spec
     Inv-loop
     μ-loop
-    within-requires
     loop-holds
     mul-b
-    array-read-b
+    shared-slice-read-b
     cast-b
     print-region-requires
     add-i
     loop-less
     loop-again
-    cast-print-region
     print-region-requires-2
     returns)

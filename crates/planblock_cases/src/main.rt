@@ -1,9 +1,9 @@
 // Plan blocks by example: what storing and reading answer, a line for each case.
-use model::Plan;
-use model::Verdict;
 ghost use mathlib.Core.Path.{_≡_};
 ghost use Prim.Native.Nat.{_≤_, _<_};
 ghost use Rattle.planvalue.specs.Values.{planVerdict};
+use model::Plan;
+use model::Verdict;
 
 fn show(case: &[u8], verdict: Verdict) {
     desk::print(case);
@@ -11,20 +11,22 @@ fn show(case: &[u8], verdict: Verdict) {
     desk::print_verdict(verdict);
 }
 
-fn wide(x: u16) -> u64 {
-    x as u64
+// The first two points.
+fn show_points(points: &[u16; 64]) {
+    desk::print(b", points");
+    desk::print_points(desk::first(points, 2));
+    desk::end_line();
 }
 
 fn show_plan(case: &[u8], plan: Plan) {
+    let points = plan.points;
     desk::print(case);
     desk::print_field(b": N ", plan.blocks as u64);
     desk::print_field(b", id ", plan.id as u64);
     desk::print_field(b", count ", plan.count as u64);
     desk::print_field(b", lines ", plan.lines as u64);
     desk::print_field(b", cost ", plan.cost);
-    desk::print_field(b", points ", wide(plan.points[0]));
-    desk::print_field(b" ", wide(plan.points[1]));
-    desk::end_line();
+    show_points(&points);
 }
 
 // A plan with these first three entries.

@@ -1,6 +1,6 @@
 -- What the methods' stores do to the lines that the words hold, and when two sets are one value.
 -- Assumes nothing.
-use mathlib.Core.Bool.{Bool, true, false, _&&_, _||_, and-false, or-false}
+use mathlib.Core.Bool.{Bool, true, false, cond, _&&_, _||_, and-false, or-false}
 use mathlib.Core.List.{List}
 use mathlib.Core.Logic.{by-cases}
 use mathlib.Core.Path.{_≡_, refl, sym, ap, _∙_}
@@ -100,13 +100,17 @@ in-both op xs ys f z dig ex ey w rs l j d =
 
 -- what `with` joins with word k: the line's digit in the line's word, and 0 in the others
 abbrev pub mask : ℕ → ℕ → ℕ
-mask line k = boolByte (eqb k (line / 64)) * 2 ^ bitAnd line 63 % 2 ^ 64
+mask line k = cond (eqb k (line / 64)) (1 * 2 ^ bitAnd line 63 % 2 ^ 64) 0
 
 -- the line is added to the set; a line of 512 or more is in none of the words
 pub in-with : (ws : List ℕ) (line w : ℕ) (rs : List ℕ) → length ws ≡ 8 → 8 ≤ w → Joined bitOr ws (mask line) w rs
     → (d : ℕ) → inWords rs d ≡ (inWords ws d || ltb line 512 && eqb d line)
 in-with ws line w rs e l j d = by-cases (decLt d 512) below above
   where
+    digit-mask : (b : Bool) → digit (cond b (1 * 2 ^ bitAnd line 63 % 2 ^ 64) 0) (d % 64) ≡ (b && eqb (d % 64) (line % 64))
+    digit-mask true = rw (and-mask line 6) (digit-shl true 64 (line % 64) (d % 64) (omega arith))
+    digit-mask false = digit-of-zero (d % 64)
+
     one-digit : (eqb (d / 64) (line / 64) && eqb (d % 64) (line % 64)) ≡ eqb d line
     one-digit =
         by-cases (ℕ-discrete d line) (λ q. rw (q, eq-eqb (line / 64) (line / 64) refl, eq-eqb (line % 64) (line % 64) refl, eq-eqb line line refl) refl)
@@ -123,7 +127,7 @@ in-with ws line w rs e l j d = by-cases (decLt d 512) below above
     below h =
         in-joined bitOr ws (mask line) _||_ digit-or w rs l j d h ∙
         ap (λ (x : Bool). inWords ws d || x)
-        (rw (and-mask line 6) (digit-shl (eqb (d / 64) (line / 64)) 64 (line % 64) (d % 64) (omega arith)) ∙ one-digit ∙ in-range h)
+        (digit-mask (eqb (d / 64) (line / 64)) ∙ one-digit ∙ in-range h)
 
     above : (d < 512 → ⊥) → inWords rs d ≡ (inWords ws d || ltb line 512 && eqb d line)
     above h =

@@ -1,5 +1,5 @@
 // A set of cache lines in eight words: line c is bit c mod 64 of word c div 64.
-ghost use mathlib.Core.Bool.{false, _&&_, _||_};
+ghost use mathlib.Core.Bool.{false, cond, _&&_, _||_};
 ghost use mathlib.Core.Path.{_≡_};
 ghost use Prim.Native.Nat.{ℕ};
 ghost use lib.Dec.{eqb, ltb};
@@ -21,9 +21,10 @@ impl LineSet {
     pub fn with(mut self, line: usize) -> Self
         ensures { λ r. ⌜ ((d : ℕ) → members r d ≡ (members self d || ltb line 512 && eqb d line)) ⌝ }
     {
+        let bit = 1 << (line & 63);
         let word = line >> 6;
         for w in 0..8 {
-            self.words[w] = self.words[w] | (((w == word) as u64) << (line & 63));
+            self.words[w] = self.words[w] | bit_in(w, word, bit);
         }
         self
     }
@@ -66,4 +67,11 @@ impl LineSet {
         }
         n
     }
+}
+
+// What is joined with word w: the bit, if it is one of this word.
+fn bit_in(w: usize, word: usize, bit: u64) -> u64
+    ensures { λ r. ⌜ r ≡ cond (eqb w word) bit 0 ⌝ }
+{
+    if w == word { bit } else { 0 }
 }

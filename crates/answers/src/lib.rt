@@ -3,7 +3,9 @@ ghost use mathlib.Core.Path.{_≡_};
 ghost use Prim.Native.Nat.{_≤_};
 ghost use Rattle.model.specs.Answers.{number, place, placeOf, verdictPlace, andThen, mostBlocks};
 ghost use Rattle.model.specs.Answers as Answers;
+ghost use Rattle.model.specs.Planning.{noPlan};
 use model::Input;
+use model::Plan;
 use model::Refusal;
 use model::Verdict;
 
@@ -87,5 +89,19 @@ pub fn returned(input: Input, verdict: Verdict) -> u32
         Verdict::Accepted => 0,
         Verdict::Refused(refusal) => refusal_number(refusal) * 65536
             + place_of(input, refusal) as u32,
+    }
+}
+
+// The plan that a refusal carries.
+pub fn no_plan() -> Plan
+    ensures { λ r. ⌜ r ≡ noPlan ⌝ }
+{
+    Plan {
+        blocks: 0,
+        id: 0,
+        count: 0,
+        lines: 0,
+        cost: 0,
+        points: [0; 64],
     }
 }

@@ -136,20 +136,13 @@ fn plan_of(bytes: &[u8]) -> Plan
     }
 }
 
-// A refused read.
-fn refused(refusal: Refusal) -> PlanRead
+// What is answered where no plan is read.
+fn no_plan(refusal: Refusal) -> PlanRead
     ensures { λ r. ⌜ (r .verdict ≡ Verdict.Refused refusal) × (r .plan ≡ noPlan) ⌝ }
 {
     PlanRead {
         verdict: Verdict::Refused(refusal),
-        plan: Plan {
-            blocks: 0,
-            id: 0,
-            count: 0,
-            lines: 0,
-            cost: 0,
-            points: [0u16; 64],
-        },
+        plan: answers::no_plan(),
     }
 }
 
@@ -173,17 +166,17 @@ pub fn read(bytes: &[u8]) -> PlanRead
     ensures { λ r. ⌜ r .plan ≡ onAccepted (readVerdict (now (bytes .entry))) (planOf (now (bytes .entry))) noPlan ⌝ }
 {
     if bytes.len() != 512 {
-        return refused(Refusal::Length);
+        return no_plan(Refusal::Length);
     }
     if !block::checksum_right(bytes) {
-        return refused(Refusal::Checksum(0));
+        return no_plan(Refusal::Checksum(0));
     }
     if 63 < block::u16_at(bytes, 4) {
-        return refused(Refusal::WrongBlock(0));
+        return no_plan(Refusal::WrongBlock(0));
     }
     let plan = plan_of(bytes);
     if !plan_right(bytes, plan) {
-        return refused(Refusal::WrongBlock(0));
+        return no_plan(Refusal::WrongBlock(0));
     }
     PlanRead {
         verdict: Verdict::Accepted,

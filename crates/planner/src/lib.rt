@@ -138,12 +138,10 @@ pub fn price_block(file: &[u8], block: &[u8]) -> BlockPrice
 fn no_block_price(verdict: Verdict, input: Input) -> BlockPrice
     ensures { λ r. ⌜ (r .verdict ≡ verdict) × (r .input ≡ input) × (r .plan ≡ noPlan) ⌝ }
 {
-    let none = plans::no_plan(verdict);
-    let plan = none.plan;
     BlockPrice {
         verdict,
         input,
-        plan,
+        plan: answers::no_plan(),
     }
 }
 

@@ -88,13 +88,6 @@ pub fn no_plan(verdict: Verdict) -> FilePlan
 {
     FilePlan {
         verdict,
-        plan: Plan {
-            blocks: 0,
-            id: 0,
-            count: 0,
-            lines: 0,
-            cost: 0,
-            points: [0; 64],
-        },
+        plan: answers::no_plan(),
     }
 }

@@ -50,7 +50,7 @@ pub fn price_list(file: &[u8], sets: &[u64; 1048], points: &[u16]) -> Price
     ensures { λ r. ⌜ Prices (taskOf (now (file .entry))) (now (points .entry)) r ⌝ }
 {
     match wrong_point(points, taskfile::block_count(file)) {
-        Place::At(i) => refused(Refusal::Argument(i)),
+        Place::At(i) => no_price(Refusal::Argument(i)),
         Place::Nowhere => price_regions(file, sets, points),
     }
 }
@@ -69,7 +69,7 @@ fn price_regions(file: &[u8], sets: &[u64; 1048], points: &[u16]) -> Price
         let b = edge_after(points, i, n);
         let region = regions::region_between(file, sets, a, b);
         if !region.fits {
-            return refused(Refusal::AboveLimit(i));
+            return no_price(Refusal::AboveLimit(i));
         }
         lines += region.lines as u64;
         cost += region.cost;
@@ -95,7 +95,7 @@ fn edge_after(points: &[u16], i: usize, n: usize) -> usize
 }
 
 // What is answered of a list that is refused.
-fn refused(refusal: Refusal) -> Price
+fn no_price(refusal: Refusal) -> Price
     ensures { λ r. ⌜ r ≡ record { verdict = Verdict.Refused refusal; lines = 0; cost = 0 } ⌝ }
 {
     Price {

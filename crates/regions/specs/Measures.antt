@@ -10,7 +10,7 @@ use Rattle.model.specs.Regions.{unionAfter, timeAfter, loaded, regionLines, reg
 use Rattle.lineset.specs.Members.{members}
 use Rattle.placement.specs.Table.{none, entry, slot}
 use Rattle.regions.specs.declared.Run.{Run}
-use Rattle.regions.specs.declared.Region.{Region}
+use Rattle.regions.specs.declared.MeasuredRegion.{MeasuredRegion}
 
 -- a run of basic blocks: the lines that are useful at its start and evicted, the union of its accessed useful lines, and the sum of its times
 pub record Spans (t : Task) (run : Run) : Type 0 where
@@ -22,7 +22,7 @@ pub record Spans (t : Task) (run : Run) : Type 0 where
   pub small : run .time ≤ (run .to - run .from) * 4294967295
 
 -- the region from edge a to edge b; 64 such numbers of lines or costs sum up in 64 bits
-pub record Measures (t : Task) (a b : ℕ) (r : Region) : Type 0 where
+pub record Measures (t : Task) (a b : ℕ) (r : MeasuredRegion) : Type 0 where
   pub loaded : (c : ℕ) → members (r .loaded) c ≡ loaded t a b c
   pub lines : r .lines ≡ regionLines t a b
   pub length : r .length ≡ regionLength t a b

@@ -12,7 +12,7 @@ use lineset::LineSet;
 use model::Verdict;
 
 // A region's loaded lines and their number, its length, its cost and whether it fits.
-pub struct Region {
+pub struct MeasuredRegion {
     pub loaded: LineSet,
     pub lines: u32,
     pub length: u64,
@@ -31,7 +31,7 @@ struct Run {
 }
 
 // The region from edge a to edge b.
-pub fn measure(file: &[u8], a: usize, b: usize) -> Region
+pub fn measure(file: &[u8], a: usize, b: usize) -> MeasuredRegion
     requires { ⌜ (verdict (now file) ≡ Verdict.Accepted) × (a < b) × (b ≤ blockCount (taskOf (now file))) ⌝ }
     ensures { λ r. ⌜ Measures (taskOf (now (file .entry))) a b r ⌝ }
 {
@@ -41,7 +41,7 @@ pub fn measure(file: &[u8], a: usize, b: usize) -> Region
 }
 
 // The same, from the sets of all edges.
-pub fn region_between(file: &[u8], sets: &[u64; 1048], a: usize, b: usize) -> Region
+pub fn region_between(file: &[u8], sets: &[u64; 1048], a: usize, b: usize) -> MeasuredRegion
     requires { ⌜ Ready (now file) (now sets) × (a < b) × (b ≤ blockCount (taskOf (now file))) ⌝ }
     ensures { λ r. ⌜ Measures (taskOf (now (file .entry))) a b r ⌝ }
 {
@@ -121,7 +121,7 @@ fn longer(file: &[u8], sets: &[u64; 1048], run: Run) -> Run
 }
 
 // The region of a run of basic blocks.
-fn region_of(file: &[u8], run: Run) -> Region
+fn region_of(file: &[u8], run: Run) -> MeasuredRegion
     requires { ⌜ (verdict (now file) ≡ Verdict.Accepted) × Spans (taskOf (now file)) run ⌝ }
     ensures { λ r. ⌜ Measures (taskOf (now (file .entry))) (run .from) (run .to) r ⌝ }
 {
@@ -129,7 +129,7 @@ fn region_of(file: &[u8], run: Run) -> Region
     let lines = loaded.size();
     let cost = taskfile::reload(file) as u64 * lines as u64;
     let length = run.time + cost;
-    Region {
+    MeasuredRegion {
         loaded,
         lines,
         length,

@@ -27,8 +27,8 @@ wrong c =
 enum-known-i : tie.Need-enum-known-i
 enum-known-i c = search needs
 
-refused-requires : tie.Need-refused-requires
-refused-requires c κs = search needs
+no-price-requires : tie.Need-no-price-requires
+no-price-requires c κs = search needs
 
 enum-told : tie.Need-enum-told
 enum-told c = search needs
@@ -42,7 +42,7 @@ returns c =
     let args = told .before .before .before .before .before .before .args in
     let t = taskOf (args .file .now) in
     let ps = args .points .now in
-    rw (c .refused .ensures) (refused-prices t ps (wrong-pricing t ps (wrong (told .before .before) ∙ told .i .given .1)))
+    rw (c .no-price .ensures) (refused-prices t ps (wrong-pricing t ps (wrong (told .before .before) ∙ told .i .given .1)))
 
 returns-2 : tie.Need-returns-2
 returns-2 c = search needs
@@ -54,7 +54,7 @@ price-list-spec =
     block-count-requires
     wrong-point-requires
     enum-known-i
-    refused-requires
+    no-price-requires
     enum-told
     price-regions-requires
     returns

@@ -44,8 +44,8 @@ region-between-requires c κs =
     let edges = passed-edge (at .loop .inv) (c .before .loop-test .taken) (c .edge-after .result) (edge c) in
     (at .before .before .before .before .pre .0, edges .0, edges .1)
 
-refused-requires : tie.Need-refused-requires Inv-loop μ-loop
-refused-requires c κs = search needs
+no-price-requires : tie.Need-no-price-requires Inv-loop μ-loop
+no-price-requires c κs = search needs
 
 returns : tie.Need-returns Inv-loop μ-loop
 returns c =
@@ -55,7 +55,7 @@ returns c =
     let start = at .before .before .before .before in
     let above = passed-above (at .loop .inv) (ended .before .loop-test .taken) (ended .edge-after .result) (edge ended)
     (sym (region .ensures .fits) ∙ not-true (region .result .fits) (c .before .if1 .taken)) in
-    rw (c .refused .ensures) (refused-prices _ _ (above-pricing _ _ (start .pre .1) above))
+    rw (c .no-price .ensures) (refused-prices _ _ (above-pricing _ _ (start .pre .1) above))
 
 cast-lines : tie.Need-cast-lines Inv-loop μ-loop
 cast-lines c = omega arith
@@ -106,7 +106,7 @@ price-regions-spec =
     loop-holds
     edge-after-requires
     region-between-requires
-    refused-requires
+    no-price-requires
     returns
     cast-lines
     add-lines

@@ -1,5 +1,5 @@
 -- What a cache holds of a task. Assumes nothing.
-use Prim.Native.Nat.{ℕ, _/_, _^_, _≤_}
+use Prim.Native.Nat.{_/_, _^_, _≤_}
 use mathlib.Core.Path.{_≡_}
 use Rattle.model.specs.Task.{Task}
 use Rattle.cacheline.specs.declared.Cache.{Cache}

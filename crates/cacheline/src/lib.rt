@@ -1,6 +1,6 @@
 // The cache of an accepted file, and the line of a memory block in it.
 ghost use mathlib.Core.Path.{_≡_};
-ghost use Prim.Native.Nat.{_<_, _≤_};
+ghost use Prim.Native.Nat.{_<_};
 ghost use Rattle.model.specs.Task.{Task};
 ghost use Rattle.model.specs.Lines.{lineOf};
 ghost use Rattle.taskfile.specs.File.{verdict, taskOf};

@@ -51,11 +51,12 @@ pub fn place(table: &[u64; 4096], n: usize) -> Placement
         };
     }
     let list = follow(&nexts, n);
+    let count = list.count;
     let points = list.points;
     Placement {
         found: true,
         cost,
-        count: list.count,
+        count,
         points,
     }
 }

@@ -42,11 +42,15 @@ fn plan_of(file: &[u8], count: usize, points: [u16; 64], price: Price) -> Plan
     requires { ⌜ (verdict (now file) ≡ Verdict.Accepted) × (count ≤ 63) × (price .lines < 65536) ⌝ }
     ensures { λ r. ⌜ r ≡ record { blocks = blockCount (taskOf (now (file .entry))); id = taskOf (now (file .entry)) .id; count = count; lines = price .lines; cost = price .cost; points = points } ⌝ }
 {
+    let blocks = taskfile::block_count(file) as u16;
+    let id = taskfile::id(file);
+    let count = count as u16;
+    let lines = price.lines as u16;
     Plan {
-        blocks: taskfile::block_count(file) as u16,
-        id: taskfile::id(file),
-        count: count as u16,
-        lines: price.lines as u16,
+        blocks,
+        id,
+        count,
+        lines,
         cost: price.cost,
         points,
     }

@@ -110,7 +110,8 @@ fn longer(file: &[u8], sets: &[u64; 1048], run: Run) -> Run
     let lost = run.lost;
     let lines = run.lines
         .union(edgesets::lines_at(sets, reuse::ACCESSED_USEFUL + next));
-    let time = run.time + taskfile::time(file, to) as u64;
+    let before = run.time;
+    let time = before + taskfile::time(file, to) as u64;
     Run {
         from: run.from,
         to: next,

@@ -1,6 +1,6 @@
 -- `prices::price_regions` meets its contract. The loop's invariant: the regions passed are within the limit, and lines and cost are the sums of theirs.
 -- Each point is above the last, so there are at most 64 regions. Assumes nothing.
-use Prim.Native.Nat.{ℕ, _+_, _-_, _≤_}
+use Prim.Native.Nat.{_+_, _-_}
 use mathlib.Core.Path.{_≡_, sym, ap, _∙_}
 use native.Mathlib.Omega.{arith}
 use borrow.Author.Needs.{needs}

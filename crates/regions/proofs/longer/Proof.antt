@@ -34,12 +34,11 @@ cast-time : tie.Need-cast-time
 cast-time c = search needs
 
 add-time : tie.Need-add-time
-add-time c = omega (arith, below (c .before .before .before .before .before .before))
+add-time c = omega (arith, below (c .before .before .before .before .before))
 
 returns : tie.Need-returns
 returns c =
-    let timed = c .before in
-    let start = timed .before .before .before .before .before in
+    let start = c .before .before .before .before .before in
     let t = taskOf (start .args .file .now) in
     let run = start .args .run in
     let ready = start .pre .0 in
@@ -50,10 +49,10 @@ returns c =
         lost = spans .lost;
         lines =
             λ d.
-            timed .before .union .ensures d ∙
-            ap₂ _||_ (spans .lines d) (timed .before .before .lines-at .ensures d ∙ ready .accessedUseful (run .to + 1) d (omega arith)) ∙
+            c .before .union .ensures d ∙
+            ap₂ _||_ (spans .lines d) (c .before .before .lines-at .ensures d ∙ ready .accessedUseful (run .to + 1) d (omega arith)) ∙
             sym (union-more (run .from) (run .to) (spans .rising) (accessedUseful t) d);
-        time = ap₂ _+_ (spans .time) (timed .time .ensures) ∙ sym (time-more (run .from) (run .to) (spans .rising) t);
+        time = ap₂ _+_ (spans .time) (c .time .ensures) ∙ sym (time-more (run .from) (run .to) (spans .rising) t);
         small = omega arith;
       },
       refl,

@@ -1,12 +1,11 @@
 -- `reuse::find_lines` meets its contract: the settled toggles are the useful lines, and what they have in common with the lines that each block
 -- reads are the accessed useful lines. Each step leaves the sets of the others. Assumes nothing.
 use Prim.Native.Nat.{ℕ, _+_, _≤_}
-use mathlib.Core.Path.{_≡_, refl, ap₂, _∙_}
-use mathlib.Core.Bool.{cond, _&&_, and-comm}
+use mathlib.Core.Path.{_≡_, ap₂, _∙_}
+use mathlib.Core.Bool.{_&&_, and-comm}
 use native.Mathlib.Omega.{arith}
-use lib.Dec.{eqb}
 use borrow.Author.Needs.{needs}
-use borrow.Author.Tests.{eq-eqb, ne-eqb}
+use borrow.Author.Tests.{ne-eqb}
 use Rattle.model.specs.Task.{blockCount}
 use Rattle.model.specs.Lines.{useful, accessed, accessedUseful}
 use Rattle.taskfile.specs.File.{taskOf}

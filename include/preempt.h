@@ -49,7 +49,8 @@ enum preempt_number {
    Any bytes and any lengths are answered. `block` is written only where 0 is returned, and then wholly; `file` and `points` never
    are. Nothing is kept between calls. */
 
-/* Plans the task file and leaves a plan of least cost in `block`. */
+/* Plans the task file and leaves the plan in `block`: of the lists of points that fit and cost least, that of the first in lexicographic
+   order, where a list comes before any longer one that starts with it. So a file has one plan, and its bytes are the same on every host. */
 uint32_t preempt_plan(const uint8_t *file, size_t file_len, uint8_t *block, size_t block_len);
 
 /* Prices the points of the plan block `points` for the task file and leaves their plan in `block`, with the file's basic blocks and

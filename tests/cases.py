@@ -1,5 +1,5 @@
 # Writes the inputs and the expected outputs of the programs taskfile_cases and planner_cases.
-# Everything here is computed from the scope document, and nothing from the programs.
+# Everything here is computed from documents 01 and 02, and nothing from the programs.
 import os
 import shutil
 import struct
@@ -87,15 +87,16 @@ class Task:
         return lines, self.r * lines
 
     def plan(self):
-        """The first list of least cost, or None. An empty rest comes first, then the lowest next point."""
+        """The first list of least cost, or None. Python orders lists as item 1 does: from the front, and a list before those it begins."""
         least = {self.n: (0, [])}
         for a in reversed(range(self.n)):
-            for b in [self.n, *range(a + 1, self.n)]:
-                if b not in least or self.length(a, b) > self.q:
-                    continue
-                cost = self.r * len(self.loaded(a, b)) + least[b][0]
-                if a not in least or cost < least[a][0]:
-                    least[a] = cost, ([b] if b < self.n else []) + least[b][1]
+            found = [
+                (self.r * len(self.loaded(a, b)) + least[b][0], ([b] if b < self.n else []) + least[b][1])
+                for b in range(a + 1, self.n + 1)
+                if b in least and self.length(a, b) <= self.q
+            ]
+            if found:
+                least[a] = min(found)
         return least[0][1] if 0 in least else None
 
 

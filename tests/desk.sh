@@ -45,6 +45,7 @@ region 3 4 length 20'
 prints $seven-60 "$at_3" plan
 prints $seven-60 "$at_3" price 3
 prints $seven-60 "$at_3" price 003
+prints $seven-40 "$at_1_2_3" plan
 prints $seven-40 "$at_2_3" price 2 3
 prints $seven-40 "$at_1_2_3" price 1 2 3
 prints $seven-30 "$at_1_2_3" plan

@@ -1,5 +1,5 @@
-/* Calls the archive of a release: `release FILE` plans a task file and prices the plan's points, which must give the same block, and
-   tries the refusals that need no file. It prints what went wrong; status 1 if anything did. */
+/* Calls the archive of a release: `release FILE` plans File Seven and prices the plan's points, which must give the same block, plans it
+   once more at Q 40, and tries the refusals that need no file. It prints what went wrong; status 1 if anything did. */
 #include <preempt.h>
 #include <stdio.h>
 #include <string.h>
@@ -15,6 +15,17 @@ static void hold(int right, const char *what) {
 
 static int refused(uint32_t returned, uint32_t number, uint32_t place) {
     return PREEMPT_NUMBER(returned) == number && PREEMPT_PLACE(returned) == place;
+}
+
+/* Makes the limit of a task file another one, and its header's checksum right. */
+static void set_limit(uint8_t *file, uint32_t limit) {
+    uint32_t checksum = 2166136261u;
+    for (int i = 0; i < 4; i++)
+        file[8 + i] = (uint8_t)(limit >> (8 * i));
+    for (int i = 0; i < 508; i++)
+        checksum = (checksum ^ file[i]) * 16777619u;
+    for (int i = 0; i < 4; i++)
+        file[508 + i] = (uint8_t)(checksum >> (8 * i));
 }
 
 int main(int argc, char **argv) {
@@ -42,5 +53,14 @@ int main(int argc, char **argv) {
     hold(preempt_plan(file, len, planned, sizeof planned) == PREEMPT_OK, "planning the file");
     hold(preempt_price(file, len, planned, sizeof planned, priced, sizeof priced) == PREEMPT_OK, "pricing the plan's points");
     hold(memcmp(planned, priced, sizeof planned) == 0, "the two blocks differ");
+
+    /* at Q 40 the points 1, 2, 3 and 2, 3 cost the same, and the first of the two is planned whatever the block held */
+    static const uint8_t count_1_2_3[] = {3, 0}, points_1_2_3[] = {1, 0, 2, 0, 3, 0, 0, 0};
+    set_limit(file, 40);
+    hold(preempt_plan(file, len, planned, sizeof planned) == PREEMPT_OK, "planning the file at Q 40");
+    hold(memcmp(planned + PREEMPT_PLAN_COUNT_AT, count_1_2_3, sizeof count_1_2_3) == 0, "not three points at Q 40");
+    hold(memcmp(planned + PREEMPT_PLAN_POINTS_AT, points_1_2_3, sizeof points_1_2_3) == 0, "not the points 1, 2, 3 at Q 40");
+    hold(preempt_plan(file, len, before, sizeof before) == PREEMPT_OK, "planning the file at Q 40 once more");
+    hold(memcmp(planned, before, sizeof planned) == 0, "two plans of one file differ");
     return wrong;
 }

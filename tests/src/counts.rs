@@ -2,7 +2,7 @@
 
 pub struct Counts(Vec<(String, u64)>);
 
-const SHAPES: [&str; 28] = [
+const SHAPES: [&str; 31] = [
     "2 above block 0",
     "5 in a basic block",
     "5 in an interrupter",
@@ -19,6 +19,9 @@ const SHAPES: [&str; 28] = [
     "plan at price > 0",
     "price > 0, N > 12",
     "plan with ties",
+    "ties with N > 12",
+    "tie by beginning",
+    "tie by a lower point",
     "plan, only one list",
     "plan with N > 12",
     "plan with N 64",

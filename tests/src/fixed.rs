@@ -39,16 +39,19 @@ impl Fixed<'_> {
         }
     }
 
-    fn planned(&mut self, right: &[&[usize]], price: u64) -> Result<(), String> {
-        match self.driver.check(&mut self.rng, &self.reference, &Call::Plan, BLOCK)? {
+    fn planned(&mut self, right: &[usize], price: u64) -> Result<(), String> {
+        match self
+            .driver
+            .check(&mut self.rng, &self.reference, &Call::Plan, BLOCK)?
+        {
             Outcome::Planned(points)
-                if right.contains(&&points[..]) && self.reference.least.as_ref().unwrap().price == price =>
+                if points == right && self.reference.least.as_ref().unwrap().price == price =>
             {
                 Ok(())
             }
-            Outcome::Planned(points) => {
-                Err(format!("expected: one of {right:?} at price {price}\ngot: {points:?}, and the reference agrees"))
-            }
+            Outcome::Planned(points) => Err(format!(
+                "expected: {right:?} at price {price}\ngot: {points:?}, and the reference agrees"
+            )),
             _ => Err("the reference plans nothing".to_string()),
         }
     }
@@ -121,7 +124,7 @@ pub fn run(driver: &mut Driver) -> Result<(), String> {
     f.set(&Call::Region(1, 3), &[0])?;
     f.set(&Call::Region(1, 2), &[])?;
     f.set(&Call::Region(3, 4), &[])?;
-    f.planned(&[&[3]], 0)?;
+    f.planned(&[3], 0)?;
     f.refused(&Call::Price(&plan_block(4, 0, 0, 0, &[1])), 8, 1)?;
     f.refused(&Call::Price(&plan_block(4, 0, 0, 0, &[2, 2])), 5, 97)?;
     f.refused(&Call::Useful(5), 7, 0)?;
@@ -145,14 +148,16 @@ pub fn run(driver: &mut Driver) -> Result<(), String> {
             f.anything(&Call::Region(a, b))?;
         }
     }
+    f.task("File Seven, Q 80", &seven(80));
+    f.planned(&[], 0)?;
     f.task("File Seven, Q 40", &seven(40));
-    f.planned(&[&[1, 2, 3], &[2, 3]], 10)?;
+    f.planned(&[1, 2, 3], 10)?;
     f.task("File Seven, Q 30", &seven(30));
-    f.planned(&[&[1, 2, 3]], 10)?;
+    f.planned(&[1, 2, 3], 10)?;
     f.task("File Seven, Q 29", &seven(29));
     f.refused(&Call::Plan, 6, 0)?;
     f.task("one basic block, Q 60", &one_block(60, 60));
-    f.planned(&[&[]], 0)?;
+    f.planned(&[], 0)?;
     f.task("one basic block, Q 59", &one_block(60, 59));
     f.refused(&Call::Plan, 6, 0)?;
 

@@ -204,7 +204,7 @@ fn run_case(
 
     if !reference.agrees_with_itself() {
         return Err(
-            "the reference finds another least price by trying all lists than by recursion"
+            "the reference finds another least price or list by trying all lists than by recursion"
                 .to_string(),
         );
     }
@@ -219,13 +219,13 @@ fn run_case(
     let mut good: Vec<Vec<usize>> = Vec::new();
     if let Some(least) = &reference.least {
         good.push(least.points.clone());
+        good.push(least.last.clone());
     }
     let len = out_len(rng, 512);
     let outcome = driver.check(rng, &reference, &Call::Plan, len)?;
     count_refusal(counts, "plan", &outcome, named);
     if let Outcome::Planned(points) = outcome {
         count_plan(counts, &reference, &points);
-        good.push(points);
     }
 
     let prices = if accepted { 4 } else { 2 };
@@ -297,6 +297,18 @@ fn count_plan(counts: &mut Counts, reference: &Reference, points: &[usize]) {
         "price > 0, N > 12",
     );
     counts.add_if(least.ties > 1, "plan with ties");
+    counts.add_if(
+        least.ties > 1 && model.n > reference::TRY_ALL,
+        "ties with N > 12",
+    );
+    counts.add_if(
+        least.last.starts_with(points) && least.ties > 1,
+        "tie by beginning",
+    );
+    counts.add_if(
+        least.ties > 1 && !least.last.starts_with(points),
+        "tie by a lower point",
+    );
     counts.add_if(least.ties == 1 && model.n > 1, "plan, only one list");
     counts.add_if(model.n > reference::TRY_ALL, "plan with N > 12");
     counts.add_if(model.n == 64, "plan with N 64");

@@ -234,15 +234,67 @@ pub fn set_bytes(set: &Set) -> Vec<u8> {
     words.iter().flat_map(|w| w.to_le_bytes()).collect()
 }
 
-/// A price and the points that reach it.
-type Priced = Option<(u64, Vec<usize>)>;
-
+/// The least price of some lists, and which of them reach it.
+#[derive(Clone, PartialEq, Eq)]
 pub struct Least {
     pub price: u64,
-    /// One list that reaches it.
+    /// The first list that reaches it, and the last.
     pub points: Vec<usize>,
-    /// How many lists reach it; 0 where not every list was tried.
+    pub last: Vec<usize>,
+    /// How many lists reach it.
     pub ties: u64,
+}
+
+impl Least {
+    fn only(price: u64, points: Vec<usize>) -> Least {
+        Least {
+            price,
+            last: points.clone(),
+            points,
+            ties: 1,
+        }
+    }
+
+    /// The least of the lists of both.
+    fn or(self, other: Least) -> Least {
+        if self.price != other.price {
+            return if self.price < other.price {
+                self
+            } else {
+                other
+            };
+        }
+        Least {
+            price: self.price,
+            points: in_order(self.points, other.points).0,
+            last: in_order(self.last, other.last).1,
+            ties: self.ties + other.ties,
+        }
+    }
+}
+
+/// From the front, the lower point at the first difference; a list before those that it begins.
+fn comes_before(one: &[usize], other: &[usize]) -> bool {
+    match one.iter().zip(other).find(|(p, q)| p != q) {
+        Some((p, q)) => p < q,
+        None => one.len() < other.len(),
+    }
+}
+
+fn in_order(one: Vec<usize>, other: Vec<usize>) -> (Vec<usize>, Vec<usize>) {
+    if comes_before(&one, &other) {
+        (one, other)
+    } else {
+        (other, one)
+    }
+}
+
+/// `None` is no list.
+fn least_of(one: Option<Least>, other: Option<Least>) -> Option<Least> {
+    match (one, other) {
+        (Some(one), Some(other)) => Some(one.or(other)),
+        (one, other) => one.or(other),
+    }
 }
 
 /// All sets, sizes and lengths of one accepted file.
@@ -328,74 +380,56 @@ impl Model {
             .position(|&(a, b)| self.lengths[a][b] > self.task.limit as u64)
     }
 
-    /// The least price of all fitting lists.
+    /// The least price of all fitting lists, and the first list that reaches it.
     pub fn least(&self) -> Option<Least> {
         if self.n <= TRY_ALL {
             self.least_of_all()
         } else {
-            let (price, points) = self.least_by_recursion()?;
-            Some(Least {
-                price,
-                points,
-                ties: 0,
-            })
+            self.least_by_recursion()
         }
     }
 
     fn least_of_all(&self) -> Option<Least> {
-        let mut least: Option<Least> = None;
+        let mut least = None;
         for choice in 0..1u32 << (self.n - 1) {
             let points: Vec<usize> = (1..self.n).filter(|p| choice >> (p - 1) & 1 == 1).collect();
-            if self.first_above(&points).is_some() {
-                continue;
-            }
-            let price = self.price_of(&points);
-            match &mut least {
-                Some(l) if l.price < price => {}
-                Some(l) if l.price == price => l.ties += 1,
-                _ => {
-                    least = Some(Least {
-                        price,
-                        points,
-                        ties: 1,
-                    })
-                }
+            if self.first_above(&points).is_none() {
+                least = least_of(least, Some(Least::only(self.price_of(&points), points)));
             }
         }
         least
     }
 
-    fn least_by_recursion(&self) -> Priced {
+    fn least_by_recursion(&self) -> Option<Least> {
         self.least_from(0, &mut vec![None; self.n])
     }
 
-    /// The least price of blocks a+1 to N with a cut before them, and the points after a.
-    fn least_from(&self, a: usize, known: &mut Vec<Option<Priced>>) -> Priced {
+    /// The same for blocks a+1 to N with a cut before them, and the points after a.
+    fn least_from(&self, a: usize, known: &mut Vec<Option<Option<Least>>>) -> Option<Least> {
         if let Some(answer) = &known[a] {
             return answer.clone();
         }
-        let mut best: Priced = None;
+        let mut least = None;
         for b in a + 1..=self.n {
             if self.lengths[a][b] > self.task.limit as u64 {
                 continue;
             }
-            let rest = if b == self.n {
-                Some((0, Vec::new()))
+            let mut rest = if b == self.n {
+                Some(Least::only(0, Vec::new()))
             } else {
-                self.least_from(b, known).map(|(price, mut points)| {
-                    points.insert(0, b);
-                    (price, points)
-                })
+                self.least_from(b, known)
             };
-            if let Some((price, points)) = rest {
-                let price = price + self.task.reload as u64 * self.sizes[a][b];
-                if best.as_ref().is_none_or(|(least, _)| price < *least) {
-                    best = Some((price, points));
+            if let Some(rest) = &mut rest {
+                rest.price += self.task.reload as u64 * self.sizes[a][b];
+                if b < self.n {
+                    rest.points.insert(0, b);
+                    rest.last.insert(0, b);
                 }
             }
+            least = least_of(least, rest);
         }
-        known[a] = Some(best.clone());
-        best
+        known[a] = Some(least.clone());
+        least
     }
 }
 
@@ -481,13 +515,10 @@ impl Reference {
         }
     }
 
-    /// Where every list was tried, the recursion must find the same price.
+    /// Where every list was tried, the recursion must find the same price and lists.
     pub fn agrees_with_itself(&self) -> bool {
         match &self.model {
-            Some(model) if model.n <= TRY_ALL => {
-                let recursion = model.least_by_recursion();
-                recursion.map(|(price, _)| price) == self.least.as_ref().map(|l| l.price)
-            }
+            Some(model) if model.n <= TRY_ALL => model.least_by_recursion() == self.least,
             _ => true,
         }
     }
@@ -545,7 +576,7 @@ impl Reference {
         )
     }
 
-    /// The bytes a call leaves that isn't refused; planning's own choice is checked apart.
+    /// The bytes a call leaves that isn't refused; a plan is checked apart.
     pub fn answer(&self, call: &Call) -> Option<Vec<u8>> {
         let model = self.model.as_ref().unwrap();
         match *call {
@@ -560,7 +591,7 @@ impl Reference {
         }
     }
 
-    /// Whether a block is a right answer of planning: some fitting list of least price, stored.
+    /// Whether a block is the answer of planning: the first of the fitting lists of least price, stored.
     pub fn check_planned(&self, block: &[u8]) -> Result<Vec<usize>, String> {
         let model = self.model.as_ref().unwrap();
         let least = self.least.as_ref().unwrap();
@@ -593,6 +624,12 @@ impl Reference {
             return Err(format!(
                 "price {} as with {:?}, {points:?} costs {price}",
                 least.price, least.points
+            ));
+        }
+        if points != least.points {
+            return Err(format!(
+                "{:?}, which comes before {points:?} at the same price {price}",
+                least.points
             ));
         }
         Ok(points)

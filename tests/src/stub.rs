@@ -6,7 +6,7 @@ use crate::reference::{Call, Reference};
 use std::process::{Command, ExitCode};
 use std::sync::{Mutex, OnceLock};
 
-pub const BUGS: [&str; 86] = [
+pub const BUGS: [&str; 89] = [
     "line numbers in eight bits",
     "line numbers in nine bits with S 512 as 511",
     "number 0 as empty",
@@ -40,6 +40,9 @@ pub const BUGS: [&str; 86] = [
     "at most 62 points",
     "one reload price per point in the choice only",
     "a line once for the task in the choice only",
+    "a choice replaced at the same price",
+    "the end tried last",
+    "edges tried downward",
     "9 last",
     "512 or more as output",
     "written on refusal 6",
@@ -582,7 +585,8 @@ fn lines_and_price(t: &Task, sets: &Sets, points: &[usize]) -> (u64, u64) {
     (lines, price)
 }
 
-/// From the end: the least price after each edge, and the next cut.
+/// From the end: the least price after each edge, and the next cut. The end is tried first, then
+/// the edges upward.
 fn choose(t: &Task, sets: &Sets) -> Option<Vec<usize>> {
     let n = t.n;
     match bug() {
@@ -619,7 +623,13 @@ fn choose(t: &Task, sets: &Sets) -> Option<Vec<usize>> {
     let mut best: Vec<Option<(u64, usize)>> = vec![None; n + 1];
     best[n] = Some((0, n));
     for a in (0..n).rev() {
-        for b in a + 1..=n {
+        let upward = a + 1..n;
+        let order: Vec<usize> = match bug() {
+            "the end tried last" => upward.chain([n]).collect(),
+            "edges tried downward" => [n].into_iter().chain(upward.rev()).collect(),
+            _ => [n].into_iter().chain(upward).collect(),
+        };
+        for b in order {
             let Some((rest, _)) = best[b] else { continue };
             if !within(t, sets, a, b) || (has("stretches of at most 40 blocks") && b - a > 40) {
                 continue;
@@ -641,7 +651,11 @@ fn choose(t: &Task, sets: &Sets) -> Option<Vec<usize>> {
                 }
                 _ => t.r * ones(&loaded(sets, a, b)),
             };
-            if best[a].is_none_or(|(least, _)| own + rest < least) {
+            let replaces = |least| match bug() {
+                "a choice replaced at the same price" => own + rest <= least,
+                _ => own + rest < least,
+            };
+            if best[a].is_none_or(|(least, _)| replaces(least)) {
                 best[a] = Some((own + rest, b));
             }
         }

@@ -57,7 +57,7 @@ pub plan-stores : (file : List ℕ) (v : Verdict) (p : Plan) → PlanAnswer file
 plan-stores file v p answer a = go (verdict file) refl
   where
     go : (w : Verdict) → verdict file ≡ w → planVerdict p ≡ Accepted
-    go Accepted e = rw (answer .planned e .follows a) (stores file (chosen p) e (answer .planned e .best a .well-formed))
+    go Accepted e = rw (answer .planned e .follows a) (stores file (chosen p) e (answer .planned e .best a .least-cost .well-formed))
     go (Refused x) e = absurd (never-both (sym a ∙ answer .refused x e .0))
 
 -- what `leave` does with the answer is what the call promises

@@ -8,7 +8,7 @@ use mathlib.Core.List.{List}
 use lib.Dec.{eqb}
 use lib.ListN.{length}
 use Rattle.model.specs.Task.{Task}
-use Rattle.model.specs.Regions.{BestList, NoPlacementFits}
+use Rattle.model.specs.Regions.{FirstBest, NoPlacementFits}
 use Rattle.model.specs.Answers.{returned, onAccepted}
 use Rattle.model.specs.Planning.{chosen, planFor}
 use Rattle.model.specs.declared.Input.the-variants.{First}
@@ -19,10 +19,10 @@ use Rattle.taskfile.specs.File.{verdict, taskOf}
 use Rattle.planblock.specs.Plans.{planBytes, planOf}
 use Rattle.planner.specs.Calls.{blockVerdict, blockInput}
 
--- a list of points that fits and costs least, and its plan stored in the block
+-- the first of the lists of points that fit and cost least, and its plan stored in the block
 pub record StoredBest (t : Task) (left : List ℕ) : Type 0 where
   pub points : List ℕ
-  pub best : BestList t points
+  pub best : FirstBest t points
   pub bytes : left ≡ planBytes (planFor t points)
 
 -- planning: what it returns and leaves, of a file and the block's bytes

@@ -11,7 +11,7 @@ use model::Plan;
 use model::Refusal;
 use model::Verdict;
 
-// Plans a task file and leaves the plan in the block.
+// Plans a task file and leaves its one plan in the block.
 #[no_mangle]
 pub extern "C" fn preempt_plan(file: &[u8], block: &mut [u8]) -> u32
     ensures { λ r. ⌜ PlanCall (now (file .entry)) (now (block .entry)) r (now (block .exit)) ⌝ }

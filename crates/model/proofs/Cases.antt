@@ -3,26 +3,29 @@
 use Prim.Native.Nat.{ℕ, zero, suc, _<_, _≤_}
 use mathlib.Core.Path.{_≡_, refl, sym, ap, _∙_}
 use mathlib.Core.Bool.{Bool, true, false, not, _&&_, _||_, Bool·beq, false≢true}
-use mathlib.Core.Logic.{by-cases}
+use mathlib.Core.Logic.{_⊎_, inl, inr, by-cases}
 use mathlib.Core.List.{List, [], _∷_, List·Memᴰ, List·Memᴰ·head, List·Memᴰ·tail}
 use native.Mathlib.Omega.{arith}
 use native.Mathlib.Decide.{ℕ-discrete, decLe}
-use native.Mathlib.Nat.{le-of-eq, le-trans}
+use native.Mathlib.Nat.{le-of-eq, le-of-lt, le-trans}
 use lib.Dec.{eqb, ltb, leb}
 use borrow.Author.Tests.{eqb-true, le-leb, ltb-true, not-true}
 use Rattle.model.specs.Sets.{Lines, countBelow}
 use Rattle.model.specs.Task.{Task, blockCount}
 use Rattle.model.specs.Lines.{lineOf, onLine, lastRead, firstRead, anyRead, readsOf, preempterReads, blockAt, stateAfter, nextRead, useful, accessed, accessedUseful, evicted}
-use Rattle.model.specs.Lists.{steps, regions, every, total, lowest, wellFormed, among, sameList, risingLists, allLists}
-use Rattle.model.specs.Regions.{unionAfter, timeAfter, loaded, regionLines, regionLength, regionFits, regionCost, lines, cost, fits, NoPlacementFits}
+use Rattle.model.specs.Lists.{steps, regions, every, total, lowest, wellFormed, before, among, sameList, risingLists, allLists}
+use Rattle.model.specs.Regions.{unionAfter, timeAfter, loaded, regionLines, regionLength, regionFits, regionCost, lines, cost, fits, FirstBest, NoPlacementFits}
 use Rattle.model.specs.Answers.{accepted, pricing, number, place}
-use Rattle.model.specs.Cases.{Case, usefulAre, accessedUsefulAre, evictedAre, loadedAre, lengthIs, bestAre, fittingAre, noneFits, priced, refused, lineIs, listed, RefusedBy, CaseHolds, cases}
+use Rattle.model.specs.Cases.{Case, usefulAre, accessedUsefulAre, evictedAre, loadedAre, lengthIs, bestAre, firstIs, fittingAre, noneFits, priced, refused, lineIs, listed, RefusedBy, CaseHolds, cases}
+use Rattle.model.specs.Planning.{chosen, Planned}
 use Rattle.model.specs.Laws.{CasesHold}
+use Rattle.model.specs.declared.Plan.{Plan}
 use Rattle.model.specs.declared.Refusal.the-variants.{NoPlacement}
 use Rattle.model.specs.declared.Verdict.{Verdict}
 use Rattle.model.specs.declared.Verdict.the-variants.{Accepted, Refused}
 use Rattle.model.proofs.Verdicts.{is-accepted}
 use Rattle.model.proofs.Lists.{and-split, same-list, list-same, enumerated}
+use Rattle.model.proofs.Order.{one-first}
 
 -- the tests
 
@@ -50,6 +53,10 @@ refusedBy : ℕ → ℕ → Verdict → Bool
 refusedBy n i Accepted = false
 refusedBy n i (Refused r) = eqb (number r) n && eqb (place r) i
 
+-- where qs fits, ps costs less, or it costs the same and is qs or before it
+ahead : Task → List ℕ → List ℕ → Bool
+ahead t ps qs = not (fits t qs) || (ltb (cost t ps) (cost t qs) || eqb (cost t qs) (cost t ps) && (sameList ps qs || before ps qs))
+
 test : Case → Bool
 test (usefulAre t k ds) = agreeBelow 512 (useful t k) (listed ds)
 test (accessedUsefulAre t k ds) = agreeBelow 512 (accessedUseful t k) (listed ds)
@@ -57,6 +64,7 @@ test (evictedAre t ds) = agreeBelow 512 (evicted t) (listed ds)
 test (loadedAre t a b ds) = agreeBelow 512 (loaded t a b) (listed ds)
 test (lengthIs t a b l) = eqb (regionLength t a b) l
 test (bestAre t p pss) = some pss && everyList (λ ps. eqb (cost t ps) p) pss && exactly t (λ ps. fits t ps && leb (cost t ps) p) pss
+test (firstIs t ps) = wellFormed (blockCount t) ps && fits t ps && onAll t (ahead t ps)
 test (fittingAre t pss) = exactly t (fits t) pss
 test (noneFits t n i) = onAll t (λ ps. not (fits t ps)) && refusedBy n i (Refused NoPlacement)
 test (priced t ps l p) = accepted (pricing t ps) && eqb (lines t ps) l && eqb (cost t ps) p
@@ -143,6 +151,37 @@ module _ (t : Task) (p : ℕ) (pss : List (List ℕ)) (e : everyList (λ ps. eqb
         within ps (b .well-formed) (b .fits) (le-trans (b .least qs (parts qs m .0) (parts qs m .1)) (le-of-eq (costs qs m))),
   )
 
+-- a fitting list that is ahead of each is the first of least cost, and so the list that planning gives
+module _ (t : Task) (ps : List ℕ) (w : wellFormed (blockCount t) ps ≡ true) (f : fits t ps ≡ true) (a : onAll t (ahead t ps) ≡ true) where
+  two-cases : {A : Type 0} (qs : List ℕ) → wellFormed (blockCount t) qs ≡ true → fits t qs ≡ true → (cost t ps < cost t qs → A)
+      → (cost t qs ≡ cost t ps → (sameList ps qs || before ps qs) ≡ true → A) → A
+  unfolding ahead
+  two-cases qs v g less same =
+      let lower = ltb (cost t ps) (cost t qs) in
+      let tie = eqb (cost t qs) (cost t ps) && (sameList ps qs || before ps qs) in
+      or-cases (not (fits t qs)) (lower || tie) (on-all t (ahead t ps) a qs v)
+      (λ h. absurd (false≢true (sym (not-true (fits t qs) h) ∙ g)))
+      (λ h.
+      or-cases lower tie h (λ l. less (ltb-true (cost t ps) (cost t qs) l))
+      (λ e.
+      let both = and-split (eqb (cost t qs) (cost t ps)) (sameList ps qs || before ps qs) e in
+      same (eqb-true (cost t qs) (cost t ps) (both .0)) (both .1)))
+
+  is-first : FirstBest t ps
+  is-first =
+      record {
+        least-cost = record { well-formed = w; fits = f; least = λ qs v g. two-cases qs v g (λ l. le-of-lt l) (λ e s. le-of-eq (sym e)) };
+        first = λ qs v g e ne.
+            two-cases qs v g (λ l. absurd (omega arith)) (λ d s. or-cases (sameList ps qs) (before ps qs) s (λ h. absurd (ne (same-list ps qs h))) (λ h. h));
+      }
+
+  gives : (v : Verdict) (p : Plan) → Planned t v p → (v ≡ Accepted) × (chosen p ≡ ps)
+  gives v p planned = go (planned .answers)
+    where
+      go : (v ≡ Accepted) ⊎ (v ≡ Refused NoPlacement) → (v ≡ Accepted) × (chosen p ≡ ps)
+      go (inl e) = (e, one-first (blockCount t) (regionFits t) (regionCost t) (chosen p) ps (planned .best e) is-first)
+      go (inr e) = absurd (planned .none-fits e ps w f)
+
 is-refused : (n i : ℕ) (v : Verdict) → refusedBy n i v ≡ true → RefusedBy n i v
 unfolding refusedBy
 is-refused n i Accepted h = absurd (false≢true h)
@@ -161,6 +200,10 @@ sound (bestAre t p pss) h =
     let three = and-split (some pss && everyList (λ ps. eqb (cost t ps) p) pss) (exactly t (λ ps. fits t ps && leb (cost t ps) p) pss) h in
     let two = and-split (some pss) (everyList (λ ps. eqb (cost t ps) p) pss) (three .0) in
     best t p pss (two .1) (exact t (λ ps. fits t ps && leb (cost t ps) p) pss (three .1)) (two .0)
+sound (firstIs t ps) h =
+    let three = and-split (wellFormed (blockCount t) ps && fits t ps) (onAll t (ahead t ps)) h in
+    let two = and-split (wellFormed (blockCount t) ps) (fits t ps) (three .0) in
+    (is-first t ps (two .0) (two .1) (three .1), gives t ps (two .0) (two .1) (three .1))
 sound (fittingAre t pss) h = exact t (fits t) pss h
 sound (noneFits t n i) h =
     let both = and-split (onAll t (λ ps. not (fits t ps))) (refusedBy n i (Refused NoPlacement)) h in
@@ -174,7 +217,7 @@ sound (refused t ps n i) h = is-refused n i (pricing t ps) h
 sound (lineIs t m c) h = λ d. ap (λ (x : ℕ). eqb d x) (eqb-true (lineOf t m) c h)
 
 all-pass : everyCase cases ≡ true
-unfolding everyCase test agreeBelow everyList onAll exactly some refusedBy listed useful stateAfter nextRead lastRead firstRead readsOf lineOf onLine accessed anyRead blockAt accessedUseful evicted preempterReads loaded unionAfter regionLines countBelow regionLength timeAfter regionFits regionCost every total lowest regions steps among sameList risingLists
+unfolding everyCase test agreeBelow everyList onAll exactly some ahead refusedBy listed useful stateAfter nextRead lastRead firstRead readsOf lineOf onLine accessed anyRead blockAt accessedUseful evicted preempterReads loaded unionAfter regionLines countBelow regionLength timeAfter regionFits regionCost every total lowest regions steps before among sameList risingLists
 all-pass = refl
 
 held : (cs : List Case) → everyCase cs ≡ true → (c : Case) → List·Memᴰ c cs → CaseHolds c

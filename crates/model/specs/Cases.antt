@@ -1,4 +1,4 @@
--- Document 01's cases marked P, two more of its rules on small tasks, and document 004's appendix A. A case is a claim on a task; a claim about lists is one about every list.
+-- Document 01's cases marked P, two more of its rules on small tasks, document 02's first item, and document 004's appendix A. A case is a claim on a task; a claim about lists is one about every list.
 -- Assumes nothing.
 use Prim.Native.Nat.{ℕ, _<_}
 use mathlib.Core.Path.{_≡_}
@@ -9,9 +9,9 @@ use Rattle.model.specs.Sets.{Lines}
 use Rattle.model.specs.Task.{Block, Preempter, Task, blockCount}
 use Rattle.model.specs.Lines.{onLine, useful, accessedUseful, evicted}
 use Rattle.model.specs.Lists.{wellFormed, among}
-use Rattle.model.specs.Regions.{loaded, regionLength, lines, cost, fits, BestList, NoPlacementFits}
+use Rattle.model.specs.Regions.{loaded, regionLength, lines, cost, fits, BestList, FirstBest, NoPlacementFits}
 use Rattle.model.specs.Answers.{pricing, number, place}
-use Rattle.model.specs.Planning.{Planned}
+use Rattle.model.specs.Planning.{chosen, Planned}
 use Rattle.model.specs.declared.Plan.{Plan}
 use Rattle.model.specs.declared.Refusal.{Refusal}
 use Rattle.model.specs.declared.Verdict.{Verdict}
@@ -24,6 +24,7 @@ pub data Case : Type 0 where
   loadedAre : Task → ℕ → ℕ → List ℕ → Case  -- loaded(a, b) is these lines
   lengthIs : Task → ℕ → ℕ → ℕ → Case  -- the length of region (a, b)
   bestAre : Task → ℕ → List (List ℕ) → Case  -- the least cost, and all the lists that reach it
+  firstIs : Task → List ℕ → Case  -- the first of those lists, which planning gives
   fittingAre : Task → List (List ℕ) → Case  -- all the lists that fit
   noneFits : Task → ℕ → ℕ → Case  -- no list fits, and planning refuses by this number at this place
   priced : Task → List ℕ → ℕ → ℕ → Case  -- a list's lines and cost
@@ -50,6 +51,7 @@ CaseHolds (loadedAre t a b ds) = Are (loaded t a b) ds
 CaseHolds (lengthIs t a b l) = regionLength t a b ≡ l
 CaseHolds (bestAre t p pss) =
     ((ps : List ℕ) → among ps pss ≡ true → BestList t ps × (cost t ps ≡ p)) × ((ps : List ℕ) → BestList t ps → among ps pss ≡ true)
+CaseHolds (firstIs t ps) = FirstBest t ps × ((v : Verdict) (p : Plan) → Planned t v p → (v ≡ Accepted) × (chosen p ≡ ps))
 CaseHolds (fittingAre t pss) = (ps : List ℕ) → (wellFormed (blockCount t) ps && fits t ps) ≡ among ps pss
 CaseHolds (noneFits t n i) = NoPlacementFits t × ((v : Verdict) (p : Plan) → Planned t v p → RefusedBy n i v)
 CaseHolds (priced t ps l p) = (pricing t ps ≡ Accepted) × (lines t ps ≡ l) × (cost t ps ≡ p)
@@ -117,6 +119,10 @@ cases =
     bestAre (fileSeven 4 60) 0 ((3 ∷ []) ∷ []) ∷
     -- Q 40: least cost 10; 1, 2, 3 and 2, 3 reach it
     bestAre (fileSeven 4 40) 10 ((1 ∷ 2 ∷ 3 ∷ []) ∷ (2 ∷ 3 ∷ []) ∷ []) ∷
+    -- 1, 2, 3 is the first of the two, by its first point
+    firstIs (fileSeven 4 40) (1 ∷ 2 ∷ 3 ∷ []) ∷
+    -- Q 80: no point and point 3 cost nothing, and the empty list is before all
+    firstIs (fileSeven 4 80) [] ∷
     -- Q 30: only 1, 2, 3 fits; cost 10, lines 1
     fittingAre (fileSeven 4 30) ((1 ∷ 2 ∷ 3 ∷ []) ∷ []) ∷ priced (fileSeven 4 30) (1 ∷ 2 ∷ 3 ∷ []) 1 10 ∷
     -- Q 29: refusal 6, though every time is 20

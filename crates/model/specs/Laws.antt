@@ -1,17 +1,21 @@
--- What document 01 says of the definitions and no contract states. Each is proved in proofs/ under its name in small letters.
+-- What documents 01 and 02 say of the definitions and no contract states. Each is proved in proofs/ under its name in small letters.
 -- Assumes nothing.
 use Prim.Native.Nat.{ℕ, _+_, _*_, _<_}
 use mathlib.Core.Path.{_≡_}
-use mathlib.Core.Bool.{false}
+use mathlib.Core.Bool.{Bool, true, false}
+use mathlib.Core.Logic.{_⊎_}
 use mathlib.Core.List.{List, [], _∷_, List·Memᴰ}
 use lib.Count.{ones}
 use Rattle.model.specs.Sets.{Lines, size, words, inWords}
 use Rattle.model.specs.Task.{Task, blockCount}
 use Rattle.model.specs.Lines.{stateAfter, useful}
-use Rattle.model.specs.Lists.{wellFormed, among, allLists}
+use Rattle.model.specs.Lists.{wellFormed, before, FirstOfLeast, among, allLists}
 use Rattle.model.specs.Regions.{lines, cost}
+use Rattle.model.specs.Planning.{Planned}
 use Rattle.model.specs.Cases.{Case, CaseHolds, cases}
 use Rattle.model.specs.declared.Line.the-variants.{Empty}
+use Rattle.model.specs.declared.Plan.{Plan}
+use Rattle.model.specs.declared.Verdict.{Verdict}
 
 -- line c is bit c mod 64 of word c div 64
 abbrev pub WordsHold : Type 0
@@ -45,6 +49,27 @@ CostOfLines = (t : Task) (ps : List ℕ) → cost t ps ≡ t .reload * lines t p
 -- all lists of points, of which demand 3 speaks and which the cases try: every well-formed list, the empty one too, and no other
 abbrev pub Enumerated : Type 0
 Enumerated = (n : ℕ) → 0 < n → (ps : List ℕ) → among ps (allLists n) ≡ wellFormed n ps
+
+-- the order of lists puts no list before itself
+abbrev pub BeforeIrreflexive : Type 0
+BeforeIrreflexive = (ps : List ℕ) → before ps ps ≡ false
+
+-- it goes on from list to list
+abbrev pub BeforeTransitive : Type 0
+BeforeTransitive = (ps qs rs : List ℕ) → before ps qs ≡ true → before qs rs ≡ true → before ps rs ≡ true
+
+-- and of two different lists it puts one before the other (document 02, item 1)
+abbrev pub BeforeTotal : Type 0
+BeforeTotal = (ps qs : List ℕ) → (ps ≡ qs → ⊥) → (before ps qs ≡ true) ⊎ (before qs ps ≡ true)
+
+-- so one list at most is the first of least cost
+abbrev pub OneFirst : Type 0
+OneFirst =
+    (n : ℕ) (fit : ℕ → ℕ → Bool) (cost : ℕ → ℕ → ℕ) (ps qs : List ℕ) → FirstOfLeast n fit cost ps → FirstOfLeast n fit cost qs → ps ≡ qs
+
+-- and one answer of planning at most is right for a task, verdict and plan
+abbrev pub OnePlan : Type 0
+OnePlan = (t : Task) (v w : Verdict) (p q : Plan) → Planned t v p → Planned t w q → (v ≡ w) × (p ≡ q)
 
 -- the cases marked P hold of the definitions, jointly
 abbrev pub CasesHold : Type 0

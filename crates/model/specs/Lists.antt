@@ -1,4 +1,5 @@
--- Lists of preemption points and what follows from a region's cost and fit alone (document 01, "Stretches and price").
+-- Lists of preemption points and what follows from a region's cost and fit alone (document 01, "Stretches and price"; the order of lists is
+-- document 02's, item 1).
 -- n is the last edge; fit and cost are any functions of a region's two edges. Assumes nothing.
 use Prim.Native.Nat.{ℕ, zero, suc, _+_, _-_, _≤_}
 use mathlib.Core.Path.{_≡_}
@@ -58,11 +59,24 @@ listFits fit n ps = every fit (regions n 0 ps)
 abbrev pub listCost : (ℕ → ℕ → ℕ) → ℕ → List ℕ → ℕ
 listCost cost n ps = total cost (regions n 0 ps)
 
--- demand 3 of a list: it is well formed, it fits, and no fitting list costs less
+-- the lexicographic order of lists (document 02, item 1): where two part the lower point decides, and a list is before those that it begins
+unfoldable pub before : List ℕ → List ℕ → Bool
+before [] [] = false
+before [] (q ∷ qs) = true
+before (p ∷ ps) [] = false
+before (p ∷ ps) (q ∷ qs) = ltb p q || eqb p q && before ps qs
+
+-- demand 3 of a list: it is well formed, it fits, and no fitting list costs less; several lists may be so
 pub record LeastCost (n : ℕ) (fit : ℕ → ℕ → Bool) (cost : ℕ → ℕ → ℕ) (ps : List ℕ) : Type 0 where
   pub well-formed : wellFormed n ps ≡ true
   pub fits : listFits fit n ps ≡ true
   pub least : (qs : List ℕ) → wellFormed n qs ≡ true → listFits fit n qs ≡ true → listCost cost n ps ≤ listCost cost n qs
+
+-- the list that planning gives: of least cost, and before every other fitting list of equal cost (document 02, item 1)
+pub record FirstOfLeast (n : ℕ) (fit : ℕ → ℕ → Bool) (cost : ℕ → ℕ → ℕ) (ps : List ℕ) : Type 0 where
+  pub least-cost : LeastCost n fit cost ps
+  pub first : (qs : List ℕ) → wellFormed n qs ≡ true → listFits fit n qs ≡ true → listCost cost n qs ≡ listCost cost n ps → (ps ≡ qs → ⊥)
+      → before ps qs ≡ true
 
 -- demand 3's refusal: no well-formed list fits
 abbrev pub NoneFits : ℕ → (ℕ → ℕ → Bool) → Type 0

@@ -1,12 +1,12 @@
--- What planning answers for a task (document 01, "Stretches and price" and demand 3). Which of several lists of least cost is chosen is
--- free; the rest of the plan follows from the list. Assumes nothing.
+-- What planning answers for a task (document 01, "Stretches and price" and demand 3; document 02, item 1): the first of the fitting lists of
+-- least cost, and the rest of the plan follows from the list. Assumes nothing.
 use Prim.Native.Nat.{ℕ, _-_}
 use mathlib.Core.Path.{_≡_}
 use mathlib.Core.Logic.{_⊎_}
 use mathlib.Core.List.{List, _++_}
 use lib.ListN.{length, take, replicate}
 use Rattle.model.specs.Task.{Task, blockCount}
-use Rattle.model.specs.Regions.{lines, cost, BestList, NoPlacementFits}
+use Rattle.model.specs.Regions.{lines, cost, FirstBest, NoPlacementFits}
 use Rattle.model.specs.declared.Plan.{Plan}
 use Rattle.model.specs.declared.Refusal.the-variants.{NoPlacement}
 use Rattle.model.specs.declared.Verdict.{Verdict}
@@ -32,11 +32,11 @@ planFor t ps =
 abbrev pub noPlan : Plan
 noPlan = record { blocks = 0; id = 0; count = 0; lines = 0; cost = 0; points = replicate 64 0 }
 
--- demand 3: planning answers a plan or refusal 6; a plan's list is well formed, fits and costs least among the fitting, and the plan is that
--- list's; 6 is given exactly when no list fits
+-- demand 3: planning answers a plan or refusal 6; a plan's list is well formed, fits, costs least among the fitting and is the first of those
+-- that do, and the plan is that list's; 6 is given exactly when no list fits
 pub record Planned (t : Task) (v : Verdict) (p : Plan) : Type 0 where
   pub answers : (v ≡ Accepted) ⊎ (v ≡ Refused NoPlacement)
-  pub best : v ≡ Accepted → BestList t (chosen p)
+  pub best : v ≡ Accepted → FirstBest t (chosen p)
   pub follows : v ≡ Accepted → p ≡ planFor t (chosen p)
   pub none-fits : v ≡ Refused NoPlacement → NoPlacementFits t
   pub exactly : NoPlacementFits t → v ≡ Refused NoPlacement

@@ -6,7 +6,7 @@ use lib.Dec.{leb}
 use Rattle.model.specs.Sets.{Lines, size}
 use Rattle.model.specs.Task.{Task, blockCount}
 use Rattle.model.specs.Lines.{useful, accessedUseful, evicted, blockAt}
-use Rattle.model.specs.Lists.{regions, total, lowest, listFits, listCost, LeastCost, NoneFits}
+use Rattle.model.specs.Lists.{regions, total, lowest, listFits, listCost, LeastCost, FirstOfLeast, NoneFits}
 use Rattle.model.specs.declared.Place.{Place}
 
 -- the union of s(a + 1) to s(a + n)
@@ -54,9 +54,13 @@ fits t ps = listFits (regionFits t) (blockCount t) ps
 abbrev pub regionAbove : Task → List ℕ → Place
 regionAbove t ps = lowest (regionFits t) 0 (regions (blockCount t) 0 ps)
 
--- demand 3 for a task: this list is well formed, fits, and costs least among the fitting
+-- demand 3 for a task: this list is well formed, fits, and costs least among the fitting; several may
 abbrev pub BestList : Task → List ℕ → Type 0
 BestList t ps = LeastCost (blockCount t) (regionFits t) (regionCost t) ps
+
+-- and it is the first of those: the list that planning gives (document 02, item 1)
+abbrev pub FirstBest : Task → List ℕ → Type 0
+FirstBest t ps = FirstOfLeast (blockCount t) (regionFits t) (regionCost t) ps
 
 -- refusal 6 for a task
 abbrev pub NoPlacementFits : Task → Type 0

@@ -1,15 +1,17 @@
 -- From the rows of all edges to the whole: by induction on a list of points, the cost at an edge is at most that of each list that fits from there on, and
--- a list that the next edges lead through fits and has that cost. Assumes nothing.
+-- a list that the next edges lead through fits, has that cost and is before every other that has it. Assumes nothing.
 use Prim.Native.Nat.{ℕ, _+_, _-_, _*_, _^_, _≤_, _<_, zero-le}
-use mathlib.Core.Path.{_≡_, refl, ap, _∙_}
+use mathlib.Core.Path.{_≡_, refl, sym, ap, ap₂, _∙_}
 use mathlib.Core.Bool.{Bool, true, false, and-eq-true-iff}
+use mathlib.Core.Logic.{⊎-elim}
 use mathlib.Core.List.{List, [], _∷_}
 use native.Mathlib.Nat.{le-refl, le-of-lt, lt-trans}
 use native.Mathlib.Omega.{arith}
 use borrow.Author.Tests.{ltb-true, lt-ltb}
 use lib.Dec.{ltb}
 use lib.ListN.{getD}
-use Rattle.model.specs.Lists.{steps, regions, every, total, rightPoint, listCost, LeastCost, NoneFits}
+use Rattle.model.specs.Lists.{steps, regions, every, total, rightPoint, before, listCost, FirstOfLeast, NoneFits}
+use Rattle.model.proofs.Order.{three-ways, none-before, lower-before, rest-before}
 use Rattle.placement.specs.Table.{none, entry, slot, Holds}
 use Rattle.placement.specs.Rows.{Rows, Leads}
 
@@ -98,14 +100,37 @@ module _ {table : List ℕ} {n : ℕ} {fit : ℕ → ℕ → Bool} {cost : ℕ �
         let c = cheapest p ps (l .1) (l .2) (o .rest) in
         record { way = next (o .above) (l .1) (o .fits) (c .way); costs-it = omega (arith, o .sum, c .costs-it) }
 
+    -- two lists of least cost from a: where they part, the next edge is the end, or lower than the other list's
+    ahead : (a : ℕ) (ps qs : List ℕ) → a < n → Leads nexts n (getD nexts a 0) ps → getD costs a 0 < none → Way fit n a qs
+        → total cost (regions n a qs) ≡ getD costs a 0 → (ps ≡ qs → ⊥) → before ps qs ≡ true
+    unfolding Leads total regions
+    ahead a [] [] h l lt w e ne = absurd (ne refl)
+    ahead a [] (q ∷ qs) h l lt w e ne = none-before q qs
+    ahead a (p ∷ ps) [] h l lt (last _ f) e ne =
+        let not-end = rw (l .0) at (rows .row a zero-le h .not-end) in
+        absurd (omega (arith, not-end (l .1), rows .end, in-table h (le-refl n) f))
+    ahead a (p ∷ ps) (q ∷ qs) h l lt (next lo hi f w) e ne =
+        let o = onward a p h (l .0) lt in
+        let lowest = rw (l .0) at (rows .row a zero-le h .lowest q lo) in
+        ⊎-elim (λ lower. lower-before p q ps qs lower)
+        (⊎-elim
+        (λ same.
+        rest-before p q ps qs same
+        (ahead p ps qs (l .1) (l .2) (o .rest) (rw (← same) at w) (omega (arith, rw (← same) at e, o .sum)) (λ d. ne (ap₂ _∷_ same d))))
+        (λ higher. absurd (omega (arith, lowest higher (l .1), in-table lo (le-of-lt hi) f, lower-bound w))))
+        (three-ways p q)
+
     module _ (positive : 0 < n) where
-      pub optimal : (ps : List ℕ) → Leads nexts n (getD nexts 0 0) ps → getD costs 0 0 < none → LeastCost n fit cost ps
+      pub optimal : (ps : List ℕ) → Leads nexts n (getD nexts 0 0) ps → getD costs 0 0 < none → FirstOfLeast n fit cost ps
       optimal ps l lt =
           let c = cheapest 0 ps positive l lt in
           record {
-            well-formed = way-right (c .way);
-            fits = way-fits (c .way);
-            least = λ qs right fits. rw (← c .costs-it) (lower-bound (to-way fit n 0 qs positive right fits));
+            least-cost = record {
+              well-formed = way-right (c .way);
+              fits = way-fits (c .way);
+              least = λ qs right fits. rw (← c .costs-it) (lower-bound (to-way fit n 0 qs positive right fits));
+            };
+            first = λ qs right fits e ne. ahead 0 ps qs positive l lt (to-way fit n 0 qs positive right fits) (e ∙ sym (c .costs-it)) ne;
           }
 
       pub sum : (ps : List ℕ) → Leads nexts n (getD nexts 0 0) ps → getD costs 0 0 < none → getD costs 0 0 ≡ listCost cost n ps

@@ -4,7 +4,7 @@ use mathlib.Core.Path.{_≡_}
 use mathlib.Core.Bool.{Bool, true, false}
 use mathlib.Core.List.{List}
 use lib.ListN.{getD, take, drop, replicate}
-use Rattle.model.specs.Lists.{LeastCost, NoneFits, listCost}
+use Rattle.model.specs.Lists.{FirstOfLeast, NoneFits, listCost}
 use Rattle.placement.specs.declared.Placement.{Placement}
 
 -- the mark of a region that does not fit
@@ -25,10 +25,10 @@ pub record Holds (table : List ℕ) (n : ℕ) (fit : ℕ → ℕ → Bool) (cost
   pub entries : (a b : ℕ) → a < b → b ≤ n → getD table (slot a b) 0 ≡ entry (fit a b) (cost a b)
   pub bounded : (a b : ℕ) → a < b → b ≤ n → fit a b ≡ true → cost a b < 2 ^ 56
 
--- what a placement r of a task of n blocks says: of whatever regions the table holds, its points are a list of least cost and its cost is theirs, or no list fits;
+-- what a placement r of a task of n blocks says: of whatever regions the table holds, its points are the first list of least cost and its cost is theirs, or no list fits;
 -- and of any table, zeros stand beyond the points, and zeros alone where no list fits
 pub record Placed (table : List ℕ) (n : ℕ) (r : Placement) : Type 0 where
-  pub least : (fit : ℕ → ℕ → Bool) (cost : ℕ → ℕ → ℕ) → Holds table n fit cost → r .found ≡ true → LeastCost n fit cost (take (r .count) (r .points))
+  pub first : (fit : ℕ → ℕ → Bool) (cost : ℕ → ℕ → ℕ) → Holds table n fit cost → r .found ≡ true → FirstOfLeast n fit cost (take (r .count) (r .points))
   pub sum : (fit : ℕ → ℕ → Bool) (cost : ℕ → ℕ → ℕ) → Holds table n fit cost → r .found ≡ true → r .cost ≡ listCost cost n (take (r .count) (r .points))
   pub refuses : (fit : ℕ → ℕ → Bool) (cost : ℕ → ℕ → ℕ) → Holds table n fit cost → r .found ≡ false → NoneFits n fit
   pub fewer : r .count < n

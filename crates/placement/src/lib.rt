@@ -1,4 +1,4 @@
-// The least-cost choice of preemption points over a table of regions: entry a * 64 + (b - 1) is the
+// The first least-cost choice of preemption points over a table of regions: entry a * 64 + (b - 1) is the
 // cost of the region from edge a to edge b, or NONE where the region does not fit.
 ghost use Prim.Native.Nat.{_+_, _≤_, _<_, min};
 ghost use mathlib.Core.Path.{_≡_};
@@ -33,7 +33,7 @@ struct Points {
     points: [u16; 64],
 }
 
-// The points of least cost of a task of n blocks.
+// The first points of least cost of a task of n blocks.
 pub fn place(table: &[u64; 4096], n: usize) -> Placement
     requires { ⌜ (1 ≤ n) × (n ≤ 64) ⌝ }
     ensures { λ r. ⌜ Placed (now (table .entry)) n r ⌝ }

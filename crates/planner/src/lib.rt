@@ -145,7 +145,7 @@ fn no_block_price(verdict: Verdict, input: Input) -> BlockPrice
     }
 }
 
-// A plan whose list fits and costs least.
+// The plan of the first of the fitting lists that cost least.
 pub fn plan(file: &[u8]) -> FilePlan
     ensures { λ r. ⌜ PlanAnswer (now (file .entry)) (r .verdict) (r .plan) ⌝ }
 {

@@ -8,7 +8,7 @@ use mathlib.Core.List.{List, _++_}
 use native.Mathlib.Omega.{arith}
 use lib.ListN.{length, take, drop, replicate, take-append-drop, length-drop, length-replicate, length-take}
 use Rattle.model.specs.Task.{Task, blockCount}
-use Rattle.model.specs.Regions.{regionFits, regionCost, lines, cost, BestList, NoPlacementFits}
+use Rattle.model.specs.Regions.{regionFits, regionCost, lines, cost, FirstBest, NoPlacementFits}
 use Rattle.model.specs.Answers.{pricing}
 use Rattle.model.specs.Planning.{planFor, noPlan, Planned}
 use Rattle.model.specs.declared.Refusal.the-variants.{NoPlacement}
@@ -72,11 +72,11 @@ module _ (t : Task) (table : List ℕ) (r : Placement) (holds : Holds table (blo
       }
 
   module _ (most : blockCount t ≤ 64) (f : r .found ≡ true) (price : Price) (prices : Prices t (take (r .count) (r .points)) price) where
-    best : BestList t (take (r .count) (r .points))
-    best = placed .least (regionFits t) (regionCost t) holds f
+    best : FirstBest t (take (r .count) (r .points))
+    best = placed .first (regionFits t) (regionCost t) holds f
 
     list-accepted : pricing t (take (r .count) (r .points)) ≡ Accepted
-    list-accepted = fits-accepted t (take (r .count) (r .points)) (best .well-formed) (best .fits)
+    list-accepted = fits-accepted t (take (r .count) (r .points)) (best .least-cost .well-formed) (best .least-cost .fits)
 
     pub list-lines-fit : price .lines < 65536
     list-lines-fit = lines-fit (r .count) (r .points) (omega (arith, placed .fewer)) (placed .beyond) t list-accepted price prices
@@ -88,6 +88,6 @@ module _ (t : Task) (table : List ℕ) (r : Placement) (holds : Holds table (blo
           best = λ e. best;
           follows = λ e. follows (r .count) (r .points) (omega (arith, placed .fewer)) (placed .beyond) t list-accepted price prices;
           none-fits = λ e. absurd (never-both e);
-          exactly = λ none. absurd (none (take (r .count) (r .points)) (best .well-formed) (best .fits));
+          exactly = λ none. absurd (none (take (r .count) (r .points)) (best .least-cost .well-formed) (best .least-cost .fits));
           empty = λ e. absurd (never-both e);
         }

@@ -1,4 +1,4 @@
-// The plan of an accepted file: that of given points, or one of least cost.
+// The plan of an accepted file: that of given points, or the first of least cost.
 ghost use mathlib.Core.Path.{_≡_};
 ghost use lib.ListN.{drop, replicate};
 ghost use Prim.Native.Nat.{_-_, _<_, _≤_};
@@ -56,7 +56,7 @@ fn plan_of(file: &[u8], count: usize, points: [u16; 64], price: Price) -> Plan
     }
 }
 
-// A plan whose list fits and costs least.
+// The plan of the first of the fitting lists that cost least.
 pub fn least_plan(file: &[u8]) -> FilePlan
     requires { ⌜ verdict (now file) ≡ Verdict.Accepted ⌝ }
     ensures { λ r. ⌜ Planned (taskOf (now (file .entry))) (r .verdict) (r .plan) ⌝ }

@@ -19,7 +19,7 @@ module _ {table costs nexts : List ℕ} {n : ℕ} (rows : Rows table n 0 costs n
   nowhere : 0 < n → n ≤ 64 → getD costs 0 0 ≡ none → Placed table n (record { found = false; cost = 0; count = 0; points = replicate 64 0 })
   nowhere positive most e =
       record {
-        least = λ fit cost held f. absurd (false≢true f);
+        first = λ fit cost held f. absurd (false≢true f);
         sum = λ fit cost held f. absurd (false≢true f);
         refuses = λ fit cost held f. refused held rows positive most e;
         fewer = positive;
@@ -32,7 +32,7 @@ module _ {table costs nexts : List ℕ} {n : ℕ} (rows : Rows table n 0 costs n
   somewhere positive ne l =
       let lt : getD costs 0 0 < none = omega (arith, rows .row 0 zero-le positive .attained) in
       record {
-        least = λ fit cost held f. optimal held rows positive _ (l .leads) lt;
+        first = λ fit cost held f. optimal held rows positive _ (l .leads) lt;
         sum = λ fit cost held f. sum held rows positive _ (l .leads) lt;
         refuses = λ fit cost held f. absurd (true≢false f);
         fewer = l .fewer;

@@ -74,7 +74,11 @@ same-set xs ys k e h d = ap (λ (ws : List ℕ). inWords ws d) (ext-getD 0 (word
         let small : w < 8 = omega (arith, length-take 8 (drop (k * 8) xs)) in
         word-at xs k w small ∙ h w small ∙ sym (word-at ys k w small)
 
--- a bit, shifted to the line's digit, is joined with the line's word of edge k
+-- what is joined with set k alone leaves every other set
+pub elsewhere : (f : Bool → Bool → Bool) → ((x : Bool) → f x false ≡ x) → (x q : Bool) (e k : ℕ) → (e ≡ k → ⊥) → f x (q && eqb e k) ≡ x
+elsewhere f stays x q e k n = rw (ne-eqb e k n, and-false) (stays x)
+
+-- a bit, shifted to the line's digit, is joined with the line's word of set k
 pub set-changed : (op : ℕ → ℕ → ℕ) (f : Bool → Bool → Bool) → ((a b j : ℕ) → digit (op a b) j ≡ f (digit a j) (digit b j))
     → ((x : Bool) → f x false ≡ x) → (b : Bool) (sets : List ℕ) (k line : ℕ) → length sets ≡ 1048 → k < 131 → line < 512 → (e d : ℕ)
     → linesAt (set sets (k * 8 + line / 64) (op (getD sets (k * 8 + line / 64) 0) (boolByte b * 2 ^ bitAnd line 63 % 2 ^ 64))) e d

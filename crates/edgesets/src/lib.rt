@@ -1,4 +1,4 @@
-// Sets of lines in one lent array: 131 sets of eight words. The first 65 may stand as toggles, and the next 65 are kept against them.
+// Sets of lines in one lent array: 131 sets of eight words. The first 65 may stand as toggles until they are settled.
 ghost use mathlib.Core.Bool.{cond, _&&_, _||_, xor};
 ghost use mathlib.Core.Path.{_≡_};
 ghost use Prim.Native.Nat.{ℕ, _+_, _≤_, _<_};

@@ -113,11 +113,8 @@ in-with ws line w rs e l j d = by-cases (decLt d 512) below above
 
     one-digit : (eqb (d / 64) (line / 64) && eqb (d % 64) (line % 64)) ≡ eqb d line
     one-digit =
-        by-cases (ℕ-discrete d line) (λ q. rw (q, eq-eqb (line / 64) (line / 64) refl, eq-eqb (line % 64) (line % 64) refl, eq-eqb line line refl) refl)
-        (λ n.
-        by-cases (ℕ-discrete (d / 64) (line / 64))
-        (λ q. rw (ne-eqb d line n, ne-eqb (d % 64) (line % 64) (λ r. n (omega arith))) (and-false (eqb (d / 64) (line / 64))))
-        (λ q. rw (ne-eqb d line n, ne-eqb (d / 64) (line / 64) q) refl))
+        by-cases (ℕ-discrete (d / 64) (line / 64)) (λ q. rw (eq-eqb (d / 64) (line / 64) q) (eqb-low d line q))
+        (λ n. rw (ne-eqb (d / 64) (line / 64) n, ne-eqb d line (λ e. n (ap (λ (x : ℕ). x / 64) e))) refl)
 
     in-range : d < 512 → eqb d line ≡ (ltb line 512 && eqb d line)
     in-range h =

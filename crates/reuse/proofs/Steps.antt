@@ -19,7 +19,7 @@ use Rattle.model.specs.declared.Line.the-variants.{Empty, Held}
 use Rattle.model.proofs.LineStates.{never-empty, useful-beyond, any-take}
 use Rattle.model.proofs.ReadOrder.{allReads, edge, take-edge, drop-edge, edge-rises, edge-end, edge-suc, read-at}
 use Rattle.edgesets.specs.Edges.{linesAt, toggledAt}
-use Rattle.edgesets.proofs.Edges.{no-lines}
+use Rattle.edgesets.proofs.Edges.{no-lines, elsewhere}
 use Rattle.edgesets.proofs.Toggles.{xor-false, toggled-none, toggled-above}
 use Rattle.reuse.proofs.Walk.{Kept, retold, since-le, other, this}
 
@@ -169,7 +169,7 @@ gathered-more t i j b m line sets sets′ hj eb em at added g =
     }
   where
     same : (e c : ℕ) → (e ≡ b → ⊥) → linesAt sets′ e c ≡ linesAt sets e c
-    same e c n = added e c ∙ rw (ne-eqb e b n, and-false) (or-false (linesAt sets e c))
+    same e c n = added e c ∙ elsewhere _||_ or-false (linesAt sets e c) (eqb c line) e b n
 
 -- the block's last read is passed
 pub gathered-block : (t : Task) (i j : ℕ) (sets : List ℕ) → i < 64 → length (blockAt t i .reads) ≤ j → Gathered t i j sets → Gathered t (suc i) 0 sets

@@ -99,7 +99,7 @@ fn with_marked(lines: LineSet, c: usize, marked: bool) -> LineSet
     if marked { lines.with(c) } else { lines }
 }
 
-// U(k) as toggles and T(k), in one walk over the reads: what each line holds, and the block that read it last.
+// U(k) as toggles, and T(k) in the place of A(k), in one walk over the reads: what each line holds, and the block that read it last.
 fn walk_reads(file: &[u8], sets: &mut [u64; 1048])
     requires { ⌜ (verdict (now file) ≡ Verdict.Accepted) × (now sets ≡ replicate 1048 0) ⌝ }
     ensures { λ _. ⌜ Collected (now (file .entry)) (now (sets .exit)) ⌝ }

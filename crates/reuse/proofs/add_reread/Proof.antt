@@ -1,22 +1,15 @@
 -- `reuse::add_reread` meets its contract: a line toggled at two edges changes at those between them.
 -- Assumes nothing.
-use Prim.Native.Nat.{ℕ, _≤_, _<_}
-use mathlib.Core.Path.{_≡_, ap, _∙_}
-use mathlib.Core.Bool.{Bool, _&&_, xor, and-false}
-use mathlib.Core.List.{List}
+use mathlib.Core.Path.{ap, _∙_}
+use mathlib.Core.Bool.{Bool, _&&_, xor}
 use native.Mathlib.Omega.{arith}
 use lib.Dec.{eqb, leb}
 use borrow.Author.Needs.{needs}
-use borrow.Author.Tests.{ne-eqb}
-use Rattle.edgesets.specs.Edges.{linesAt, toggledAt}
+use Rattle.edgesets.specs.Edges.{toggledAt}
+use Rattle.edgesets.proofs.Edges.{elsewhere}
 use Rattle.edgesets.proofs.Toggles.{xor-false, toggled-more, toggled-twice}
 use Rattle.reuse.proofs.add_reread.Statement.{statement}
 use Rattle.reuse.proofs.add_reread.Tie as tie
-
--- a toggle of a set below 65 leaves those from 65 on
-other : (sets sets′ : List ℕ) (q : Bool) (a k d : ℕ) → a < 65 → 65 ≤ k → linesAt sets′ k d ≡ xor (linesAt sets k d) (q && eqb k a)
-    → linesAt sets′ k d ≡ linesAt sets k d
-other sets sets′ q a k d l h e = e ∙ rw (ne-eqb k a (λ s. omega arith), and-false) (xor-false (linesAt sets k d))
 
 holds-requires : tie.Need-holds-requires
 holds-requires c κs = search needs
@@ -43,8 +36,8 @@ returns c =
             toggled-twice (toggledAt (a .sets .now) k d) q (a .from) (a .to) k (start .pre .2)),
         λ k d h.
             let q : Bool = again .result && eqb d (a .c) in
-            other (first .last .0) (c .toggle2 .last .0) q (a .to) k d (omega arith) h (c .toggle2 .ensures .1 k d) ∙
-            other (a .sets .now) (first .last .0) q (a .from) k d (omega arith) h (first .ensures .1 k d),
+            c .toggle2 .ensures .1 k d ∙ elsewhere xor xor-false _ q k (a .to) (λ e. omega arith) ∙
+            first .ensures .1 k d ∙ elsewhere xor xor-false _ q k (a .from) (λ e. omega arith),
       ),
     )
 

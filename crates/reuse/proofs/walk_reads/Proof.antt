@@ -2,15 +2,13 @@
 -- Assumes nothing.
 use Prim.Native.Nat.{ℕ, _+_, _-_, _≤_, _<_}
 use mathlib.Core.Path.{_≡_, refl, sym, ap, _∙_}
-use mathlib.Core.Bool.{_&&_, _||_, and-false, or-false}
-use mathlib.Core.List.{List}
+use mathlib.Core.Bool.{_||_, or-false}
 use native.Mathlib.Nat.{add-zero}
 use native.Mathlib.Omega.{arith}
 use native.Mathlib.Numerals.{add-one}
 use lib.Dec.{eqb}
 use lib.ListN.{length, getD, replicate, getD-replicate}
 use borrow.Author.Needs.{needs}
-use borrow.Author.Tests.{ne-eqb}
 use Rattle.model.specs.Task.{blockCount}
 use Rattle.model.specs.Lines.{lineOf, blockAt, readsOf}
 use Rattle.model.specs.declared.Line.the-variants.{Empty}
@@ -18,14 +16,11 @@ use Rattle.model.proofs.ReadOrder.{edge, edge-suc, edge-end}
 use Rattle.taskfile.specs.File.{taskOf}
 use Rattle.taskfile.proofs.Accepted as accepted-file
 use Rattle.edgesets.specs.Edges.{linesAt}
+use Rattle.edgesets.proofs.Edges.{elsewhere}
 use Rattle.edgesets.proofs.Toggles.{toggled-agree}
 use Rattle.reuse.proofs.Steps.{Walked, walked-none, walked-more, walked-same, walked-all, walked-since, Gathered, gathered-none, gathered-same, gathered-more, gathered-block}
 use Rattle.reuse.proofs.walk_reads.Statement.{statement}
 use Rattle.reuse.proofs.walk_reads.Tie as tie
-
--- a line added to a set from 65 on leaves the sets below
-below-added : (sets sets′ : List ℕ) (e d k line : ℕ) → e < 65 → linesAt sets′ e d ≡ (linesAt sets e d || eqb d line && eqb e (65 + k)) → linesAt sets′ e d ≡ linesAt sets e d
-below-added sets sets′ e d k line h q = q ∙ rw (ne-eqb e (65 + k) (λ s. omega arith), and-false) (or-false (linesAt sets e d))
 
 abbrev Inv-loop2 : tie.InvT-loop2
 Inv-loop2 file sets₀ cache blocks held₀ since₀ i k reads j₀ sets held since j =
@@ -143,7 +138,7 @@ loop2-again c =
     let line-is : line .result ≡ lineOf (taskOf file) (number .result) = line .ensures .0 (taskOf file) (cache .ensures) in (
       omega arith,
       walked-same (taskOf file) _ _ _ (reread .last .0) (c .add-line .last .0) (c .add-line .ensures .0)
-          (λ k d h. toggled-agree _ (reread .last .0) k d (λ e l. below-added (reread .last .0) (c .add-line .last .0) e d (outer .i + 1) (line .result) (omega arith) (c .add-line .ensures .1 e d)))
+          (λ k d h. toggled-agree _ (reread .last .0) k d (λ e l. c .add-line .ensures .1 e d ∙ elsewhere _||_ or-false (linesAt (reread .last .0) e d) (eqb d (line .result)) e (65 + (outer .i + 1)) (λ s. omega arith)))
           (walked-more (taskOf file) (outer .i) (inner .j) (outer .i + 1) (number .result) (line .result) _ (inner .held) (inner .since) (inner .sets)
           (reread .last .0) inside counted (add-one (outer .i)) number-is (line .ensures .1) line-is (omega arith)
           (reread .ensures .0) (reread .ensures .1 .0) (inner .inv .1)),

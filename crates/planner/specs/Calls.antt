@@ -24,12 +24,13 @@ use Rattle.planblock.specs.Plans.{readVerdict, planOf}
 abbrev pub noWords : List ℕ
 noWords = words (λ c. false)
 
--- U(k): 7 at 0 for k above N
-unfoldable pub usefulVerdict : List ℕ → ℕ → Verdict
-usefulVerdict file k = andThen (verdict file) (cond (leb k (blockCount (taskOf file))) Accepted (Refused (Argument 0)))
+-- a call on edge k: 7 at 0 for k above N
+unfoldable pub edgeVerdict : List ℕ → ℕ → Verdict
+edgeVerdict file k = andThen (verdict file) (cond (leb k (blockCount (taskOf file))) Accepted (Refused (Argument 0)))
 
+-- U(k)
 unfoldable pub usefulWords : List ℕ → ℕ → List ℕ
-usefulWords file k = onAccepted (usefulVerdict file k) (words (useful (taskOf file) k)) noWords
+usefulWords file k = onAccepted (edgeVerdict file k) (words (useful (taskOf file) k)) noWords
 
 -- a region (a, b): 7 at 0 unless 0 ≤ a < b ≤ N
 unfoldable pub regionVerdict : List ℕ → ℕ → ℕ → Verdict

@@ -4,7 +4,7 @@ ghost use Rattle.model.specs.Answers.{onAccepted};
 ghost use Rattle.model.specs.Planning.{noPlan};
 ghost use Rattle.taskfile.specs.File.{verdict};
 ghost use Rattle.planblock.specs.Plans.{storeVerdict, stored, readVerdict, planOf};
-ghost use Rattle.planner.specs.Calls.{noWords, usefulVerdict, usefulWords, regionVerdict, loadedWords, lengthOf, priceVerdict, priceLines, priceCost, blockVerdict, blockInput, blockPlan, PlanAnswer};
+ghost use Rattle.planner.specs.Calls.{noWords, edgeVerdict, usefulWords, regionVerdict, loadedWords, lengthOf, priceVerdict, priceLines, priceCost, blockVerdict, blockInput, blockPlan, PlanAnswer};
 use lineset::LineSet;
 use model::Input;
 use model::Plan;
@@ -36,7 +36,7 @@ pub struct BlockPrice {
 
 // U(k) of a file.
 pub fn useful(file: &[u8], k: usize) -> UsefulLines
-    ensures { λ r. ⌜ r .verdict ≡ usefulVerdict (now (file .entry)) k ⌝ }
+    ensures { λ r. ⌜ r .verdict ≡ edgeVerdict (now (file .entry)) k ⌝ }
     ensures { λ r. ⌜ r .lines .words ≡ usefulWords (now (file .entry)) k ⌝ }
 {
     let checked = taskfile::check(file);

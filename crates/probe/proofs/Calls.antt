@@ -17,7 +17,7 @@ use Rattle.taskfile.specs.File.{verdict, taskOf}
 use Rattle.taskfile.proofs.Places.{verdict-most}
 use Rattle.block.specs.Bytes.{le, les}
 use Rattle.planblock.proofs.Storing.{les-snoc}
-use Rattle.planner.specs.Calls.{usefulVerdict, regionVerdict}
+use Rattle.planner.specs.Calls.{edgeVerdict, regionVerdict}
 
 -- the file's refusal, or 7 at 0
 file-most : (file : List ℕ) (right : Bool) → verdictPlace (andThen (verdict file) (cond right Accepted (Refused (Argument 0)))) ≤ mostBlocks
@@ -27,8 +27,8 @@ file-most file right = then-most (verdict file) (cond right Accepted (Refused (A
     argument true = omega arith
     argument false = omega arith
 
-pub useful-most : (file : List ℕ) (k : ℕ) → verdictPlace (usefulVerdict file k) ≤ mostBlocks
-unfolding usefulVerdict
+pub useful-most : (file : List ℕ) (k : ℕ) → verdictPlace (edgeVerdict file k) ≤ mostBlocks
+unfolding edgeVerdict
 useful-most file k = file-most file (leb k (blockCount (taskOf file)))
 
 pub region-most : (file : List ℕ) (a b : ℕ) → verdictPlace (regionVerdict file a b) ≤ mostBlocks

@@ -10,14 +10,14 @@ use Rattle.model.specs.declared.Input.the-variants.{First}
 use Rattle.model.specs.declared.Refusal.the-variants.{Output}
 use Rattle.model.specs.declared.Verdict.the-variants.{Refused}
 use Rattle.block.specs.Bytes.{les}
-use Rattle.planner.specs.Calls.{usefulVerdict, usefulWords, regionVerdict, loadedWords, lengthOf}
+use Rattle.planner.specs.Calls.{edgeVerdict, usefulWords, regionVerdict, loadedWords, lengthOf}
 
 -- the useful lines at edge k, in 64 bytes: the eight words of the set
 unfoldable pub usefulReturned : List ℕ → ℕ → List ℕ → ℕ
-usefulReturned file k out = cond (eqb (length out) 64) (returned First (usefulVerdict file k)) (returned First (Refused Output))
+usefulReturned file k out = cond (eqb (length out) 64) (returned First (edgeVerdict file k)) (returned First (Refused Output))
 
 unfoldable pub usefulLeft : List ℕ → ℕ → List ℕ → List ℕ
-usefulLeft file k out = cond (eqb (length out) 64) (onAccepted (usefulVerdict file k) (les 8 (usefulWords file k)) out) out
+usefulLeft file k out = cond (eqb (length out) 64) (onAccepted (edgeVerdict file k) (les 8 (usefulWords file k)) out) out
 
 -- the loaded lines of a region and its length, in 72 bytes
 unfoldable pub regionReturned : List ℕ → ℕ → ℕ → List ℕ → ℕ

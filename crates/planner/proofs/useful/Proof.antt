@@ -9,7 +9,7 @@ use Rattle.model.specs.Task.{blockCount}
 use Rattle.model.proofs.Sets.{fits-word}
 use Rattle.lineset.proofs.Laws.{set-words}
 use Rattle.taskfile.specs.File.{taskOf}
-use Rattle.planner.specs.Calls.{usefulVerdict, usefulWords}
+use Rattle.planner.specs.Calls.{edgeVerdict, usefulWords}
 use borrow.Author.Needs.{needs}
 use Rattle.planner.proofs.useful.Statement.{statement}
 use Rattle.planner.proofs.useful.Tie as tie
@@ -27,7 +27,7 @@ empty-requires : tie.Need-empty-requires
 empty-requires c κs = search needs
 
 returns : tie.Need-returns
-unfolding usefulVerdict usefulWords
+unfolding edgeVerdict usefulWords
 returns c =
     let told = c .before .enum-told2 .given in
     let check = c .before .before .before .check in (
@@ -42,7 +42,7 @@ empty-requires-2 : tie.Need-empty-requires-2
 empty-requires-2 c κs = search needs
 
 returns-2 : tie.Need-returns-2
-unfolding usefulVerdict usefulWords
+unfolding edgeVerdict usefulWords
 returns-2 c =
     let accepted = sym (c .before .before .before .before .before .check .ensures) ∙ c .before .before .before .enum-told .given .1 in
     let above = lt-leb (c .before .before .before .before .before .before .before .args .k) (blockCount (taskOf (c .before .before .before .before .before .before .before .args .file .now))) (omega arith) in (
@@ -54,7 +54,7 @@ useful-lines-requires : tie.Need-useful-lines-requires
 useful-lines-requires c κs = (sym (c .before .before .before .before .check .ensures) ∙ c .before .before .enum-told .given .1, omega arith)
 
 returns-3 : tie.Need-returns-3
-unfolding usefulVerdict usefulWords
+unfolding edgeVerdict usefulWords
 returns-3 c =
     let start = c .before .before .before .before .before .before .before in
     let accepted = sym (c .before .before .before .before .before .check .ensures) ∙ c .before .before .before .enum-told .given .1 in

@@ -6,6 +6,7 @@ ghost use Rattle.desk.specs.Decimals.{withDigit, decimalOf, AtMost};
 use libc::STDERR_FILENO;
 use libc::STDIN_FILENO;
 use libc::STDOUT_FILENO;
+use lineset::LineSet;
 use model::Refusal;
 use model::Verdict;
 
@@ -70,6 +71,19 @@ pub fn argument(i: usize, most: u64) -> Decimal
         return Decimal::Nothing;
     }
     Decimal::Number(number)
+}
+
+// Puts the numbers that the arguments give into a list, and answers whether they are numbers, and as many as the list holds.
+pub fn arguments(numbers: &mut [u64]) -> bool {
+    let mut i = 0;
+    while i < numbers.len() {
+        let Decimal::Number(number) = argument(i + 1, 0xffff_ffff_ffff_ffff) else {
+            return false;
+        };
+        numbers[i] = number;
+        i += 1;
+    }
+    os::arg_count() == i + 1
 }
 
 // The first points of a list; all where it has no more.
@@ -139,6 +153,21 @@ pub fn print_points(points: &[u16]) {
     while i < points.len() {
         print_point(points[i]);
         i += 1;
+    }
+}
+
+fn print_line(set: LineSet, line: usize) {
+    if set.contains(line) {
+        print_field(b" ", line as u64);
+    }
+}
+
+// The lines of a set, rising, each after a space.
+pub fn print_lines(set: LineSet) {
+    let mut line = 0;
+    while line < 512 {
+        print_line(set, line);
+        line += 1;
     }
 }
 

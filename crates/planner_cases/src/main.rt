@@ -19,28 +19,13 @@ fn print_points(points: &[u16], count: usize) {
     desk::print_points(desk::first(points, count));
 }
 
-fn print_line(set: LineSet, line: usize) {
-    if set.contains(line) {
-        desk::print_field(b" ", line as u64);
-    }
-}
-
-// The lines of a set, rising, each after a space.
-fn print_each_line(set: LineSet) {
-    let mut line = 0;
-    while line < 512 {
-        print_line(set, line);
-        line += 1;
-    }
-}
-
 // The lines of a set, or none.
 fn print_lines(set: LineSet) {
     desk::print(b" lines");
     if set.size() == 0 {
         desk::print(b" none");
     }
-    print_each_line(set);
+    desk::print_lines(set);
 }
 
 fn print_lines_and_cost(lines: u64, cost: u64) {

@@ -1,8 +1,8 @@
--- `planner_cases::print_each_line` is safe and ends: the line is at most 512. Assumes nothing.
+-- `desk::print_lines` is safe and ends: the line is at most 512. Assumes nothing.
 use Prim.Native.Nat.{_≤_, _-_}
 use borrow.Author.Needs.{needs}
-use Rattle.planner_cases.proofs.print_each_line.Statement.{statement}
-use Rattle.planner_cases.proofs.print_each_line.Tie as tie
+use Rattle.desk.proofs.print_lines.Statement.{statement}
+use Rattle.desk.proofs.print_lines.Tie as tie
 
 abbrev Inv-loop : tie.InvT-loop
 Inv-loop set line₀ line = line ≤ 512
@@ -28,7 +28,7 @@ loop-again c = search needs
 returns : tie.Need-returns Inv-loop μ-loop
 returns c = search needs
 
-pub print-each-line-spec : {M : Type 1} → statement M
-print-each-line-spec =
+pub print-lines-spec : {M : Type 1} → statement M
+print-lines-spec =
     tie.close
     (tie.spec Inv-loop μ-loop loop-holds print-line-requires add-line loop-less loop-again returns)

@@ -1,9 +1,9 @@
 # make, make lib    prove the planner and build its static library
-# make parts        that, the tests' library and the programs plan and price
+# make parts        that, the tests' library and the programs plan, price, next_read and useful
 # make example      build the C example and hold what it prints on File Seven to its file 'expected'
 # make release      the library, its header and how to link them, in one archive
 # make test-c       unpack the release and call it from C
-# make test-desk    prove the programs plan and price and hold what they print to document 01
+# make test-desk    prove these programs and hold what they print to documents 01 and 02
 # make opponent     compare the C calls with the independent implementation in tests/; SEED, COUNT and CASE may be given
 # make bench        time the calls against plain Rust
 # make clean        remove all that was built
@@ -14,7 +14,7 @@ VERSION := $(shell cat VERSION)
 SOURCES := crates.txt $(shell find crates -name '*.rt' -o -name '*.antt')
 LIB := target/staticlib/libfirmware.a
 PROBE := target/staticlib/libprobe.a
-PROGRAMS := target/bin/plan target/bin/price
+PROGRAMS := $(addprefix target/bin/,plan price next_read useful)
 NAME := preempt-$(VERSION)
 RELEASE := target/release/$(NAME)
 UNPACKED := target/test-c/$(NAME)
@@ -76,7 +76,7 @@ opponent: $(LIB) $(PROBE)
 	PLANNER_LIB_DIR=$(CURDIR)/target/staticlib CARGO_TARGET_DIR=$(CURDIR)/target/opponent \
 		cargo run --release --offline --locked --quiet --manifest-path tests/Cargo.toml -- $(SEED) $(COUNT) $(CASE)
 
-bench: $(LIB)
+bench: $(LIB) $(PROBE)
 	PLANNER_LIB_DIR=$(CURDIR)/target/staticlib CARGO_TARGET_DIR=$(CURDIR)/target/bench \
 		cargo run --release --offline --locked --quiet --manifest-path bench/Cargo.toml
 

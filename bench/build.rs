@@ -7,10 +7,12 @@ fn main() {
         Ok(dir) => {
             println!("cargo:rustc-link-search=native={dir}");
             println!("cargo:rerun-if-changed={dir}/libfirmware.a");
+            println!("cargo:rerun-if-changed={dir}/libprobe.a");
         }
         Err(_) => println!("cargo:warning=PLANNER_LIB_DIR is not set"),
     }
     // A library may bring a panic handler of its own beside the standard one.
     println!("cargo:rustc-link-arg-bins=-Wl,--allow-multiple-definition");
     println!("cargo:rustc-link-lib=static=firmware");
+    println!("cargo:rustc-link-lib=static=probe");
 }

@@ -1,9 +1,10 @@
 #!/bin/sh
-# Runs the programs plan and price, and says where they print something else than document 01 has.
+# Runs the programs plan, price, next_read and useful, and says where they print something else than documents 01 and 02 have.
 set -u
 cd "$(dirname "$0")/.."
 seven=crates/planner_cases/data/seven
 largest=crates/planner_cases/data/largest
+high=crates/planner_cases/data/high-70
 damaged=crates/taskfile_cases/data
 failed=0
 errors=$(mktemp)
@@ -68,6 +69,59 @@ prints $largest 'refused 7 at 63' price $(seq 64)
 prints $largest 'refused 7 at 63' price $(seq 70)
 prints $largest 'refused 7 at 0' price 0 $(seq 70)
 
+# next_read LINE K: the number of the next read of the line after block K, and how many reads were looked at
+prints $seven-60 'read 0 looked 1' next_read 0 0
+prints $seven-60 'read 0 looked 2' next_read 0 1
+prints $seven-60 'read 0 looked 1' next_read 0 2
+prints $seven-60 'read 0 looked 2' next_read 0 3
+prints $seven-60 'read 1 looked 2' next_read 1 0
+prints $seven-60 'read 5 looked 3' next_read 1 1
+prints $seven-60 'read 5 looked 1' next_read 1 3
+prints $seven-60 'read 2 looked 3' next_read 2 0
+prints $seven-60 'none looked 3' next_read 2 2
+prints $seven-60 'none looked 6' next_read 3 0
+prints $seven-60 'none looked 0' next_read 0 4
+prints $seven-60 'read 5 looked 3' next_read 01 001
+prints $high 'read 300 looked 3' next_read 300 1
+prints $high 'read 44 looked 2' next_read 44 1
+prints $high 'none looked 2' next_read 44 2
+
+# nothing lies on a line of S or more
+prints $seven-60 'none looked 6' next_read 4 0
+prints $seven-60 'none looked 4' next_read 5 1
+prints $seven-60 'none looked 6' next_read 512 0
+prints $seven-60 'none looked 6' next_read 4294967296 0
+prints $seven-60 'none looked 6' next_read 18446744073709551615 0
+prints $largest 'none looked 7936' next_read 512 0
+prints $largest 'none looked 124' next_read 512 63
+
+prints $seven-60 'refused 7 at 0' next_read 0 5
+prints $seven-60 'refused 7 at 0' next_read 4 5
+prints $seven-60 'refused 7 at 0' next_read 0 4294967296
+prints $seven-60 'refused 7 at 0' next_read 0 18446744073709551615
+prints /dev/null 'refused 1 at 0' next_read 0 5
+prints $damaged/len-513 'refused 1 at 0' next_read 0 0
+prints $damaged/sum-block-3 'refused 2 at 3' next_read 0 5
+prints $damaged/n-65 'refused 3 at 0' next_read 0 0
+prints $damaged/count-one-few 'refused 4 at 0' next_read 0 0
+prints $damaged/r-125 'refused 5 at 1' next_read 0 0
+
+# useful K
+prints $seven-60 'lines' useful 0
+prints $seven-60 'lines 0' useful 1
+prints $seven-60 'lines 0' useful 2
+prints $seven-60 'lines 0' useful 3
+prints $seven-60 'lines' useful 4
+prints $seven-60 'lines 0' useful 02
+prints $seven-60 'refused 7 at 0' useful 5
+prints $seven-60 'refused 7 at 0' useful 18446744073709551615
+prints $high 'lines 0 300' useful 1
+prints /dev/null 'refused 1 at 0' useful 5
+prints $damaged/sum-block-3 'refused 2 at 3' useful 5
+prints $damaged/n-65 'refused 3 at 0' useful 0
+prints $damaged/count-one-few 'refused 4 at 0' useful 0
+prints $damaged/r-125 'refused 5 at 1' useful 0
+
 usage price x
 usage price 3x
 usage price ''
@@ -78,5 +132,21 @@ usage price 65536
 usage price 18446744073709551617
 usage price 1 2 y
 usage price $(seq 70) 65536
+usage next_read
+usage next_read 0
+usage next_read 0 1 2
+usage next_read x 1
+usage next_read 0 x
+usage next_read -1 1
+usage next_read 0 ''
+usage next_read 0 '1 '
+usage next_read 18446744073709551616 0
+usage next_read 0 18446744073709551616
+usage useful
+usage useful ''
+usage useful x
+usage useful -1
+usage useful 1 2
+usage useful 18446744073709551616
 
 exit $failed

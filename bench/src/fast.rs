@@ -19,7 +19,7 @@ fn all_zero(bytes: &[u8]) -> bool {
     bytes.iter().fold(0, |all, b| all | b) == 0
 }
 
-fn code(number: u32, place: usize) -> u32 {
+pub fn code(number: u32, place: usize) -> u32 {
     number << 16 | place as u32
 }
 
@@ -85,7 +85,7 @@ pub trait Method {
     fn lines(&self, a: usize, b: usize) -> u64;
 }
 
-fn open(file: &[u8]) -> Result<Task<'_>, u32> {
+pub fn open(file: &[u8]) -> Result<Task<'_>, u32> {
     let count = file.len() / BLOCK;
     if count == 0 || file.len() % BLOCK != 0 || count > MOST_BLOCKS {
         return Err(code(1, 0));

@@ -68,6 +68,37 @@ pub fn seven() -> Vec<u8> {
     file
 }
 
+/// Where the lines that the first blocks read are read again.
+pub enum Again {
+    InEachBlock,
+    InTheLast,
+    Never,
+}
+
+/// The first blocks read a line once each, with one number for a line. Every later block reads them
+/// again, or the last ones alone do, or none; the other blocks read other lines.
+pub fn reread(shape: &Shape, first: usize, again: Again) -> Vec<u8> {
+    let (n, r) = (shape.n, shape.r);
+    let held = first * r;
+    let mut file = header(n, shape.m, shape.s, shape.limit, 10, 64);
+    for i in 0..n + shape.m {
+        let same = match again {
+            _ if i < first => true,
+            Again::InEachBlock => i < n,
+            Again::InTheLast => i < n && i + first >= n,
+            Again::Never => false,
+        };
+        let number = |j| match same {
+            true => i % first * r + j,
+            false => held + j % (shape.s - held),
+        };
+        let numbers: Vec<u32> = (0..r).map(|j| number(j) as u32).collect();
+        let kind = if i < n { 2 } else { 3 };
+        reads(&mut file, kind, 100 + i as u32, &numbers);
+    }
+    file
+}
+
 /// Two numbers per line, every line as likely as the others.
 pub fn drawn(shape: &Shape) -> Vec<u8> {
     let mut rng = Rng(1);

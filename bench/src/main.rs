@@ -1,15 +1,17 @@
-//! Times the planner's two calls against the same work written for speed in plain Rust, in one
-//! process and in turns. Every figure is the median of many rounds.
+//! Times the planner's two calls, its search for the next read and U(k) against the same work
+//! written for speed in plain Rust, in one process and in turns. Every figure is the median of
+//! many rounds.
 
 mod by_line;
 mod checks;
 mod fast;
 mod files;
 mod line_sets;
+mod searches;
 
 use by_line::ByLine;
 use checks::lowest_wrong;
-use files::{drawn, seven, Shape};
+use files::{drawn, reread, seven, Again, Shape};
 use line_sets::LineSets;
 use std::hint::black_box;
 use std::time::{Duration, Instant};
@@ -23,6 +25,21 @@ extern "C" {
         points_len: usize,
         block: *mut u8,
         block_len: usize,
+    ) -> u32;
+    fn probe_next_read(
+        file: *const u8,
+        file_len: usize,
+        line: usize,
+        k: usize,
+        out: *mut u8,
+        out_len: usize,
+    ) -> u32;
+    fn probe_useful(
+        file: *const u8,
+        file_len: usize,
+        k: usize,
+        out: *mut u8,
+        out_len: usize,
     ) -> u32;
 }
 
@@ -45,6 +62,15 @@ fn planner_price(file: &[u8], points: &[u8], block: &mut [u8]) -> u32 {
             block.len(),
         )
     }
+}
+
+fn planner_next_read(file: &[u8], line: usize, k: usize, out: &mut [u8]) -> u32 {
+    let (at, len) = (out.as_mut_ptr(), out.len());
+    unsafe { probe_next_read(file.as_ptr(), file.len(), line, k, at, len) }
+}
+
+fn planner_useful(file: &[u8], k: usize, out: &mut [u8]) -> u32 {
+    unsafe { probe_useful(file.as_ptr(), file.len(), k, out.as_mut_ptr(), out.len()) }
 }
 
 /// Microseconds for one of `count` runs.
@@ -146,6 +172,84 @@ fn row(name: &str, file: &[u8]) {
     );
 }
 
+fn word(bytes: &[u8], at: usize) -> u64 {
+    u64::from_le_bytes(bytes[at..at + 8].try_into().unwrap())
+}
+
+/// One search, and U(k) by searches and by one walk.
+fn search_row(name: &str, file: &[u8], line: usize, k: usize) {
+    let mut founds = [[0u8; 24]; 2];
+    let [our_found, found] = &mut founds;
+    let mut sets = [[0u8; 64]; 3];
+    let [ours, searched, walked] = &mut sets;
+    let codes = [
+        planner_next_read(file, line, k, our_found),
+        searches::next_read(file, line, k, found),
+        planner_useful(file, k, ours),
+        searches::searched(file, k, searched),
+        searches::walked(file, k, walked),
+    ];
+    let same = codes.iter().all(|&c| c == codes[0])
+        && our_found == found
+        && ours == searched
+        && ours == walked;
+    println!(
+        "{name}: {} blocks, line {line} after block {k}: {} looked {}, U({k}) has size {}{}",
+        file.len() / 512,
+        match word(found, 0) {
+            0 => "none".to_string(),
+            _ => format!("read {}", word(found, 8)),
+        },
+        word(found, 16),
+        searched.iter().map(|b| b.count_ones()).sum::<u32>(),
+        if same { "" } else { ", ANSWERS DIFFER" }
+    );
+
+    let file = || black_box(file);
+    let (line, k) = (|| black_box(line), || black_box(k));
+    let [checks] = medians([&mut || {
+        black_box(lowest_wrong(file()));
+    }]);
+    let search = medians([
+        &mut || {
+            black_box(planner_next_read(file(), line(), k(), our_found));
+        },
+        &mut || {
+            black_box(searches::next_read(file(), line(), k(), found));
+        },
+    ]);
+    let useful = medians([
+        &mut || {
+            black_box(planner_useful(file(), k(), ours));
+        },
+        &mut || {
+            black_box(searches::searched(file(), k(), searched));
+        },
+        &mut || {
+            black_box(searches::walked(file(), k(), walked));
+        },
+    ]);
+    println!(
+        "  search planner {:9.2} us   plain {:8.2} us, ratio {:5.2}",
+        search[0],
+        search[1],
+        search[0] / search[1]
+    );
+    println!(
+        "  U(k)   planner {:9.2} us   plain {:8.2} us, ratio {:5.2}   one walk {:7.2} us, ratio {:5.2}",
+        useful[0],
+        useful[1],
+        useful[0] / useful[1],
+        useful[2],
+        useful[0] / useful[2]
+    );
+    println!(
+        "  checksums {checks:15.2} us   share of a search: planner {:.0}%, plain {:.0}%",
+        100.0 * checks / search[0],
+        100.0 * checks / search[1]
+    );
+}
+
 fn main() {
     println!("plain: line sets of eight words, carried unions; by line: one word per line");
     println!("all three hash four blocks side by side; medians of {ROUNDS} rounds in turns");
@@ -165,6 +269,17 @@ fn main() {
         }),
     );
     row("File Seven", &seven());
+    println!("a search, and U(k); plain: one search for each line that holds something; one walk: for all lines");
+    for (name, first, again) in [
+        ("next read near", 1, Again::InEachBlock),
+        ("next read far", 1, Again::InTheLast),
+        ("no next read", 1, Again::Never),
+        ("no next read, 496 lines held", 4, Again::Never),
+    ] {
+        search_row(name, &reread(&largest, first, again), 0, first);
+    }
+    search_row("largest file", &drawn(&largest), 0, 32);
+    search_row("File Seven", &seven(), 1, 1);
     println!("growth, Q without limit:");
     let unlimited = |n, r| {
         drawn(&Shape {

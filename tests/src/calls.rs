@@ -1,4 +1,4 @@
-//! The four calls under test.
+//! The five calls under test.
 
 #[cfg(not(feature = "stub"))]
 mod linked {
@@ -24,6 +24,14 @@ mod linked {
             out: *mut u8,
             out_len: usize,
         ) -> u32;
+        pub fn probe_next_read(
+            file: *const u8,
+            file_len: usize,
+            line: usize,
+            k: usize,
+            out: *mut u8,
+            out_len: usize,
+        ) -> u32;
         pub fn probe_region(
             file: *const u8,
             file_len: usize,
@@ -39,4 +47,4 @@ mod linked {
 pub use linked::*;
 
 #[cfg(feature = "stub")]
-pub use crate::stub::{preempt_plan, preempt_price, probe_region, probe_useful};
+pub use crate::stub::{preempt_plan, preempt_price, probe_next_read, probe_region, probe_useful};

@@ -2,7 +2,7 @@
 
 pub struct Counts(Vec<(String, u64)>);
 
-const SHAPES: [&str; 31] = [
+const SHAPES: [&str; 39] = [
     "2 above block 0",
     "5 in a basic block",
     "5 in an interrupter",
@@ -30,6 +30,14 @@ const SHAPES: [&str; 31] = [
     "priced above 2^32",
     "priced lines > 255",
     "other N in the block",
+    "next read at once",
+    "next read further on",
+    "next in later block",
+    "next is number 0",
+    "no next read",
+    "no read after block k",
+    "line of S or more",
+    "line of 512 or more",
     "file of 97 blocks",
     "end-aligned file",
     "start-aligned file",
@@ -48,6 +56,7 @@ impl Counts {
                 ][..],
             ),
             ("useful", &["0", "1", "2", "3", "4", "5", "7", "9"][..]),
+            ("next", &["0", "1", "2", "3", "4", "5", "7", "9"][..]),
             ("region", &["0", "1", "2", "3", "4", "5", "7", "9"][..]),
         ] {
             all.extend(answers.iter().map(|a| (format!("{call}: {a}"), 0)));

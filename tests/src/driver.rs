@@ -1,6 +1,6 @@
 //! Makes one call on guarded buffers and compares everything with the reference.
 
-use crate::calls::{preempt_plan, preempt_price, probe_region, probe_useful};
+use crate::calls::{preempt_plan, preempt_price, probe_next_read, probe_region, probe_useful};
 use crate::pages::{Lane, Side};
 use crate::reference::{hex, Call, Reference, Refusal};
 use crate::rng::Rng;
@@ -81,6 +81,13 @@ impl Driver {
             Call::Useful(k) => {
                 watch::call(format!("probe_useful, k {k}, out of {out_len}"), &[]);
                 unsafe { probe_useful(file, file_len, k, out, out_len) }
+            }
+            Call::NextRead(line, k) => {
+                watch::call(
+                    format!("probe_next_read, line {line} k {k}, out of {out_len}"),
+                    &[],
+                );
+                unsafe { probe_next_read(file, file_len, line, k, out, out_len) }
             }
             Call::Region(a, b) => {
                 watch::call(format!("probe_region, a {a} b {b}, out of {out_len}"), &[]);

@@ -5,7 +5,8 @@ use crate::driver::{Driver, Outcome};
 use crate::files::{file_of, largest, reads, seven};
 use crate::pages::Side;
 use crate::reference::{
-    empty_set, fnv1a, plan_block, put, seal, set_bytes, Call, Reference, Task, BLOCK,
+    empty_set, fnv1a, next_read, plan_block, put, seal, set_bytes, Call, Found, Reference, Task,
+    BLOCK,
 };
 use crate::rng::Rng;
 use crate::watch;
@@ -79,6 +80,24 @@ impl Fixed<'_> {
         }
     }
 
+    fn next(
+        &mut self,
+        line: usize,
+        k: usize,
+        number: Option<u32>,
+        looked: usize,
+    ) -> Result<(), String> {
+        self.anything(&Call::NextRead(line, k))?;
+        let right = Found { number, looked };
+        let model = self.reference.model.as_ref().unwrap();
+        match next_read(&model.task, line, k) {
+            found if found == right => Ok(()),
+            found => Err(format!(
+                "line {line} after block {k}: the reference finds {found:?} and not {right:?}"
+            )),
+        }
+    }
+
     fn anything(&mut self, call: &Call) -> Result<(), String> {
         self.driver
             .check(&mut self.rng, &self.reference, call, call.out_len())
@@ -121,6 +140,13 @@ pub fn run(driver: &mut Driver) -> Result<(), String> {
             if (1..=3).contains(&k) { &[0] } else { &[] },
         )?;
     }
+    f.next(0, 1, Some(0), 2)?;
+    f.next(1, 1, Some(5), 3)?;
+    f.next(2, 2, None, 3)?;
+    f.next(3, 0, None, 6)?;
+    f.next(4, 0, None, 6)?;
+    f.next(512, 1, None, 4)?;
+    f.next(0, 4, None, 0)?;
     f.set(&Call::Region(1, 3), &[0])?;
     f.set(&Call::Region(1, 2), &[])?;
     f.set(&Call::Region(3, 4), &[])?;
@@ -128,6 +154,8 @@ pub fn run(driver: &mut Driver) -> Result<(), String> {
     f.refused(&Call::Price(&plan_block(4, 0, 0, 0, &[1])), 8, 1)?;
     f.refused(&Call::Price(&plan_block(4, 0, 0, 0, &[2, 2])), 5, 97)?;
     f.refused(&Call::Useful(5), 7, 0)?;
+    f.refused(&Call::NextRead(0, 5), 7, 0)?;
+    f.refused(&Call::NextRead(4, 5), 7, 0)?;
     f.refused(&Call::Region(2, 2), 7, 0)?;
     let far = [
         255,
@@ -146,6 +174,7 @@ pub fn run(driver: &mut Driver) -> Result<(), String> {
         f.anything(&Call::Useful(a))?;
         for &b in &near {
             f.anything(&Call::Region(a, b))?;
+            f.anything(&Call::NextRead(a, b))?;
         }
     }
     f.task("File Seven, Q 80", &seven(80));
@@ -172,12 +201,18 @@ pub fn run(driver: &mut Driver) -> Result<(), String> {
     f.task("numbers 300 and 512, S 512", &task);
     f.set(&Call::Useful(1), &[0, 300])?;
     f.set(&Call::Region(1, 2), &[0, 300])?;
+    f.next(0, 1, Some(512), 1)?;
+    f.next(300, 1, Some(300), 2)?;
+    f.next(44, 1, None, 4)?;
 
     let most = largest();
     f.task("the largest file", &most);
     f.plans_something()?;
     for k in [0, 1, 32, 63, 64] {
         f.anything(&Call::Useful(k))?;
+        for line in [0, 44, 300, 511, 512] {
+            f.anything(&Call::NextRead(line, k))?;
+        }
     }
     let mut task = most.clone();
     task.blocks.push(reads(1, &[]));
@@ -228,6 +263,7 @@ fn changed_bits(f: &mut Fixed) -> Result<(), String> {
             if i % 7 == 0 {
                 f.anything(&Call::Price(&points))?;
                 f.anything(&Call::Useful(2))?;
+                f.anything(&Call::NextRead(1, 1))?;
                 f.anything(&Call::Region(1, 3))?;
             }
         }

@@ -18,7 +18,7 @@ mod watch;
 use counts::Counts;
 use driver::{random_side, Driver, Outcome};
 use pages::Side;
-use reference::{Call, Reference, BLOCK, MOST_BLOCKS};
+use reference::{Call, Reference, Task, BLOCK, MOST_BLOCKS};
 use rng::Rng;
 use std::process::ExitCode;
 
@@ -100,6 +100,7 @@ fn out_len(rng: &mut Rng, right: usize) -> usize {
         rng.pick(&[
             0,
             1,
+            24,
             64,
             72,
             63,
@@ -135,6 +136,25 @@ fn random_k(rng: &mut Rng, n: usize) -> usize {
         ]),
         2 => rng.pick(&[1 << 8, 1 << 16, 1 << 32, 1 << 63]) + rng.between(0, n),
         _ => rng.between(0, n),
+    }
+}
+
+/// Mostly a line that is read somewhere, some that are not, and numbers that are no line.
+fn random_line(rng: &mut Rng, task: &Task) -> usize {
+    let s = task.lines;
+    let numbers: Vec<u32> = task.blocks.iter().flat_map(|b| b.numbers.clone()).collect();
+    let read = if numbers.is_empty() {
+        0
+    } else {
+        rng.pick(&numbers) as usize
+    };
+    match rng.below(12) {
+        0 => rng.pick(&[0, s - 1, s, s + 1, 255, 256, 511, 512, 513]),
+        1 => rng.pick(&[65535, 65536, 1 << 32, 1 << 63, usize::MAX - 1, usize::MAX]),
+        2 => read % s + rng.pick(&[s, 256, 512, 65536, 1 << 32, 1 << 63]),
+        3 => read,
+        4..=5 => rng.below(s),
+        _ => read % s,
     }
 }
 
@@ -260,6 +280,16 @@ fn run_case(
         let outcome = driver.check(rng, &reference, &Call::Useful(k), len)?;
         count_refusal(counts, "useful", &outcome, named);
     }
+    let held = reference.model.as_ref().map_or(&task, |m| &m.task);
+    for _ in 0..if accepted { 6 } else { 1 } {
+        let (line, k) = (random_line(rng, held), random_k(rng, n));
+        let len = out_len(rng, 24);
+        let outcome = driver.check(rng, &reference, &Call::NextRead(line, k), len)?;
+        count_refusal(counts, "next", &outcome, named);
+        if let Outcome::Answered = outcome {
+            count_search(counts, held, line, k);
+        }
+    }
     for _ in 0..regions {
         let (a, b) = random_region(rng, n);
         let len = out_len(rng, 72);
@@ -275,6 +305,31 @@ fn run_case(
         }
     }
     Ok(())
+}
+
+fn count_search(counts: &mut Counts, task: &Task, line: usize, k: usize) {
+    let found = reference::next_read(task, line, k);
+    let near = task.blocks.get(k).map_or(0, |block| block.numbers.len());
+    counts.add_if(
+        found.number.is_some() && found.looked == 1,
+        "next read at once",
+    );
+    counts.add_if(
+        found.number.is_some() && found.looked > 1,
+        "next read further on",
+    );
+    counts.add_if(
+        found.number.is_some() && found.looked > near,
+        "next in later block",
+    );
+    counts.add_if(found.number == Some(0), "next is number 0");
+    counts.add_if(
+        found.number.is_none() && line < task.lines && found.looked > 0,
+        "no next read",
+    );
+    counts.add_if(found.looked == 0, "no read after block k");
+    counts.add_if(line >= task.lines && line < 512, "line of S or more");
+    counts.add_if(line >= 512, "line of 512 or more");
 }
 
 fn count_plan(counts: &mut Counts, reference: &Reference, points: &[usize]) {

@@ -475,10 +475,50 @@ fn useful_lines(task: &Task, k: usize) -> Set {
         .collect()
 }
 
+/// The answer of a search: the number of the read found, or none, and how many reads it looked at.
+#[derive(Clone, Copy, PartialEq, Eq, Debug)]
+pub struct Found {
+    pub number: Option<u32>,
+    pub looked: usize,
+}
+
+/// The first read of a line in blocks k+1 to N. Looked at are the reads up to and with it, or all
+/// of them if there is none.
+pub fn next_read(task: &Task, line: usize, k: usize) -> Found {
+    let reads: Vec<u32> = task.blocks[k..]
+        .iter()
+        .flat_map(|block| block.numbers.clone())
+        .collect();
+    for (i, &m) in reads.iter().enumerate() {
+        if m as usize % task.lines == line {
+            return Found {
+                number: Some(m),
+                looked: i + 1,
+            };
+        }
+    }
+    Found {
+        number: None,
+        looked: reads.len(),
+    }
+}
+
+/// Three words of eight bytes: 1 for a number or 0 for none, the number or 0, how many were looked at.
+fn found_bytes(found: Found) -> Vec<u8> {
+    let words = [
+        found.number.is_some() as u64,
+        found.number.unwrap_or(0) as u64,
+        found.looked as u64,
+    ];
+    words.iter().flat_map(|w| w.to_le_bytes()).collect()
+}
+
 pub enum Call<'a> {
     Plan,
     Price(&'a [u8]),
     Useful(usize),
+    /// A line, and the block after which it is looked for.
+    NextRead(usize, usize),
     Region(usize, usize),
 }
 
@@ -487,6 +527,7 @@ impl Call<'_> {
         match self {
             Call::Plan | Call::Price(_) => 512,
             Call::Useful(_) => 64,
+            Call::NextRead(..) => 24,
             Call::Region(..) => 72,
         }
     }
@@ -550,7 +591,7 @@ impl Reference {
                     return refuse(8, i);
                 }
             }
-            Call::Useful(k) => {
+            Call::Useful(k) | Call::NextRead(_, k) => {
                 if k > model.n {
                     return refuse(7, 0);
                 }
@@ -583,6 +624,7 @@ impl Reference {
             Call::Plan => None,
             Call::Price(block) => Some(self.stored(&points_of(block))),
             Call::Useful(k) => Some(set_bytes(&model.useful[k])),
+            Call::NextRead(line, k) => Some(found_bytes(next_read(&model.task, line, k))),
             Call::Region(a, b) => {
                 let mut bytes = set_bytes(&model.loaded(a, b));
                 bytes.extend_from_slice(&model.length(a, b).to_le_bytes());

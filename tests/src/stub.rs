@@ -1,4 +1,4 @@
-//! The four calls without the planner. They answer from the reference; with STUB_BUG set they
+//! The five calls without the planner. They answer from the reference; with STUB_BUG set they
 //! answer from a second implementation that has that bug. STUB_BUG=none is that implementation
 //! without any. `opponent bugs` tries them all and says which are noticed.
 
@@ -6,7 +6,7 @@ use crate::reference::{Call, Reference};
 use std::process::{Command, ExitCode};
 use std::sync::{Mutex, OnceLock};
 
-pub const BUGS: [&str; 89] = [
+pub const BUGS: [&str; 105] = [
     "line numbers in eight bits",
     "line numbers in nine bits with S 512 as 511",
     "number 0 as empty",
@@ -96,6 +96,22 @@ pub const BUGS: [&str; 89] = [
     "N of the first block stored",
     "lines and price of the first block stored",
     "k in 32 bits",
+    "search begins with block k",
+    "search ends with block k+1",
+    "search finds the last read",
+    "search finds number 0 nowhere",
+    "search compares the number itself",
+    "line searched in eight bits",
+    "line searched in 32 bits",
+    "line searched mod S",
+    "line of S or more refused",
+    "k of the search in 32 bits",
+    "k at N refused",
+    "looked at without the read found",
+    "looked at on the line alone",
+    "looked at from block 1",
+    "looked at all",
+    "looked at none if none is found",
 ];
 
 fn bug() -> &'static str {
@@ -192,6 +208,17 @@ pub unsafe fn probe_useful(
     out_len: usize,
 ) -> u32 {
     answer(file, file_len, &Call::Useful(k), out, out_len)
+}
+
+pub unsafe fn probe_next_read(
+    file: *const u8,
+    file_len: usize,
+    line: usize,
+    k: usize,
+    out: *mut u8,
+    out_len: usize,
+) -> u32 {
+    answer(file, file_len, &Call::NextRead(line, k), out, out_len)
 }
 
 pub unsafe fn probe_region(
@@ -882,6 +909,22 @@ fn broken_answer(file: &[u8], call: &Call, out: &mut [u8]) -> Result<(), u32> {
             hand_out(&sets.useful[k], None, out);
             Ok(())
         }
+        Call::NextRead(c, k) => {
+            let k = if has("k of the search in 32 bits") {
+                k as u32 as usize
+            } else {
+                k
+            };
+            if k > t.n
+                || k == t.n && has("k at N refused")
+                || c >= t.s && has("line of S or more refused")
+            {
+                return Err(code(7, 0));
+            }
+            last(out)?;
+            out.copy_from_slice(&search(&t, c, k).map(u64::to_le_bytes).concat());
+            Ok(())
+        }
         Call::Region(a, b) => {
             if a >= b || b > t.n {
                 return Err(code(7, 0));
@@ -891,6 +934,60 @@ fn broken_answer(file: &[u8], call: &Call, out: &mut [u8]) -> Result<(), u32> {
             Ok(())
         }
     }
+}
+
+/// Block by block, counting on the way.
+fn search(t: &Task, c: usize, k: usize) -> [u64; 3] {
+    let c = match bug() {
+        "line searched in eight bits" => c % 256,
+        "line searched in 32 bits" => c as u32 as usize,
+        "line searched mod S" => c % t.s,
+        _ => c,
+    };
+    let from = if has("search begins with block k") {
+        k.saturating_sub(1)
+    } else {
+        k
+    };
+    let to = if has("search ends with block k+1") {
+        t.n.min(k + 1)
+    } else {
+        t.n
+    };
+    let all: usize = t.reads[k..].iter().map(|reads| reads.len()).sum();
+    let mut looked = if has("looked at from block 1") {
+        t.reads[..k].iter().map(|reads| reads.len()).sum()
+    } else {
+        0
+    };
+    let mut found = None;
+    for &m in t.reads[from..to].iter().flatten() {
+        let here = match bug() {
+            "search compares the number itself" => m as usize == c,
+            "search finds number 0 nowhere" => m != 0 && line(m, t.s) == c,
+            _ => line(m, t.s) == c,
+        };
+        if here || !has("looked at on the line alone") {
+            looked += 1;
+        }
+        if here {
+            found = Some(m);
+            if !has("search finds the last read") {
+                break;
+            }
+        }
+    }
+    match bug() {
+        "looked at without the read found" if found.is_some() => looked -= 1,
+        "looked at all" => looked = all,
+        "looked at none if none is found" if found.is_none() => looked = 0,
+        _ => {}
+    }
+    [
+        found.is_some() as u64,
+        found.unwrap_or(0) as u64,
+        looked as u64,
+    ]
 }
 
 fn hand_out(set: &Words, length: Option<u64>, out: &mut [u8]) {

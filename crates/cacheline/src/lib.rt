@@ -2,7 +2,7 @@
 ghost use mathlib.Core.Path.{_≡_};
 ghost use Prim.Native.Nat.{_<_};
 ghost use Rattle.model.specs.Task.{Task};
-ghost use Rattle.model.specs.Lines.{lineOf};
+ghost use Rattle.model.specs.Lines.{lineOf, onLine};
 ghost use Rattle.taskfile.specs.File.{verdict, taskOf};
 ghost use Rattle.cacheline.specs.Caches.{Sound, CacheOf};
 use model::Verdict;
@@ -39,5 +39,13 @@ impl Cache {
         } else {
             (rest - lines) as usize
         }
+    }
+
+    // Whether a memory block lies on line c.
+    pub fn lies_on(self, number: u32, c: usize) -> bool
+        requires { ⌜ Sound self ⌝ }
+        ensures { λ r. ⌜ ((t : Task) → CacheOf t self → r ≡ onLine t c number) ⌝ }
+    {
+        c == self.line_of(number)
     }
 }

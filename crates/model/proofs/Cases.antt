@@ -12,13 +12,15 @@ use lib.Dec.{eqb, ltb, leb}
 use borrow.Author.Tests.{eqb-true, le-leb, ltb-true, not-true}
 use Rattle.model.specs.Sets.{Lines, countBelow}
 use Rattle.model.specs.Task.{Task, blockCount}
-use Rattle.model.specs.Lines.{lineOf, onLine, lastRead, firstRead, anyRead, readsOf, preempterReads, blockAt, stateAfter, nextRead, useful, accessed, accessedUseful, evicted}
+use Rattle.model.specs.Lines.{lineOf, onLine, lastRead, firstRead, anyRead, readsOf, preempterReads, blockAt, stateAfter, nextRead, lookedAt, readsLookedAt, asNext, useful, accessed, accessedUseful, evicted}
 use Rattle.model.specs.Lists.{steps, regions, every, total, lowest, wellFormed, before, among, sameList, risingLists, allLists}
 use Rattle.model.specs.Regions.{unionAfter, timeAfter, loaded, regionLines, regionLength, regionFits, regionCost, lines, cost, fits, FirstBest, NoPlacementFits}
 use Rattle.model.specs.Answers.{accepted, pricing, number, place}
-use Rattle.model.specs.Cases.{Case, usefulAre, accessedUsefulAre, evictedAre, loadedAre, lengthIs, bestAre, firstIs, fittingAre, noneFits, priced, refused, lineIs, listed, RefusedBy, CaseHolds, cases}
+use Rattle.model.specs.Cases.{Case, usefulAre, accessedUsefulAre, nextIs, evictedAre, loadedAre, lengthIs, bestAre, firstIs, fittingAre, noneFits, priced, refused, lineIs, listed, RefusedBy, CaseHolds, cases}
 use Rattle.model.specs.Planning.{chosen, Planned}
 use Rattle.model.specs.Laws.{CasesHold}
+use Rattle.model.specs.declared.Next.{Next}
+use Rattle.model.specs.declared.Next.the-variants.{Read, Never}
 use Rattle.model.specs.declared.Plan.{Plan}
 use Rattle.model.specs.declared.Refusal.the-variants.{NoPlacement}
 use Rattle.model.specs.declared.Verdict.{Verdict}
@@ -57,9 +59,16 @@ refusedBy n i (Refused r) = eqb (number r) n && eqb (place r) i
 ahead : Task → List ℕ → List ℕ → Bool
 ahead t ps qs = not (fits t qs) || (ltb (cost t ps) (cost t qs) || eqb (cost t qs) (cost t ps) && (sameList ps qs || before ps qs))
 
+sameNext : Next → Next → Bool
+sameNext (Read m) (Read n) = eqb m n
+sameNext (Read m) Never = false
+sameNext Never (Read n) = false
+sameNext Never Never = true
+
 test : Case → Bool
 test (usefulAre t k ds) = agreeBelow 512 (useful t k) (listed ds)
 test (accessedUsefulAre t k ds) = agreeBelow 512 (accessedUseful t k) (listed ds)
+test (nextIs t c k n l) = sameNext (asNext (nextRead t k c)) n && eqb (readsLookedAt t k c) l
 test (evictedAre t ds) = agreeBelow 512 (evicted t) (listed ds)
 test (loadedAre t a b ds) = agreeBelow 512 (loaded t a b) (listed ds)
 test (lengthIs t a b l) = eqb (regionLength t a b) l
@@ -189,10 +198,20 @@ is-refused n i (Refused r) h =
     let both = and-split (eqb (number r) n) (eqb (place r) i) h in
     (r, refl, eqb-true (number r) n (both .0), eqb-true (place r) i (both .1))
 
+same-next : (m n : Next) → sameNext m n ≡ true → m ≡ n
+unfolding sameNext
+same-next (Read m) (Read n) h = ap Read (eqb-true m n h)
+same-next (Read m) Never h = absurd (false≢true h)
+same-next Never (Read n) h = absurd (false≢true h)
+same-next Never Never h = refl
+
 sound : (c : Case) → test c ≡ true → CaseHolds c
 unfolding test onLine
 sound (usefulAre t k ds) h = agree 512 (useful t k) (listed ds) h
 sound (accessedUsefulAre t k ds) h = agree 512 (accessedUseful t k) (listed ds) h
+sound (nextIs t c k n l) h =
+    let both = and-split (sameNext (asNext (nextRead t k c)) n) (eqb (readsLookedAt t k c) l) h in
+    (same-next (asNext (nextRead t k c)) n (both .0), eqb-true (readsLookedAt t k c) l (both .1))
 sound (evictedAre t ds) h = agree 512 (evicted t) (listed ds) h
 sound (loadedAre t a b ds) h = agree 512 (loaded t a b) (listed ds) h
 sound (lengthIs t a b l) h = eqb-true (regionLength t a b) l h
@@ -217,7 +236,7 @@ sound (refused t ps n i) h = is-refused n i (pricing t ps) h
 sound (lineIs t m c) h = λ d. ap (λ (x : ℕ). eqb d x) (eqb-true (lineOf t m) c h)
 
 all-pass : everyCase cases ≡ true
-unfolding everyCase test agreeBelow everyList onAll exactly some ahead refusedBy listed useful stateAfter nextRead lastRead firstRead readsOf lineOf onLine accessed anyRead blockAt accessedUseful evicted preempterReads loaded unionAfter regionLines countBelow regionLength timeAfter regionFits regionCost every total lowest regions steps before among sameList risingLists
+unfolding everyCase test agreeBelow everyList onAll exactly some ahead sameNext refusedBy listed useful stateAfter nextRead lastRead firstRead lookedAt readsLookedAt readsOf lineOf onLine accessed anyRead blockAt accessedUseful evicted preempterReads loaded unionAfter regionLines countBelow regionLength timeAfter regionFits regionCost every total lowest regions steps before among sameList risingLists
 all-pass = refl
 
 held : (cs : List Case) → everyCase cs ≡ true → (c : Case) → List·Memᴰ c cs → CaseHolds c

@@ -1,6 +1,6 @@
 -- Laws of a line's state and its next read over a list of reads that grows at its end.
 -- Assumes nothing.
-use Prim.Native.Nat.{ℕ, _+_, _%_, _≤_, _<_}
+use Prim.Native.Nat.{ℕ, suc, _+_, _%_, _≤_, _<_}
 use native.Mathlib.Nat.{mod-lt}
 use native.Mathlib.Numerals.{add-one}
 use native.Mathlib.Omega.{arith}
@@ -58,6 +58,12 @@ module _ (on : ℕ → Bool) where
       go false e = e
 
   -- one read more
+  pub last-take : (l : Line) (xs : List ℕ) (j m : ℕ) → j < length xs → getD xs j 0 ≡ m
+      → lastRead on l (take (suc j) xs) ≡ cond (on m) (Held m) (lastRead on l (take j xs))
+  unfolding lastRead
+  last-take l xs j m h e =
+      ap (lastRead on l) (take-suc xs j 0 h ∙ ap (λ (x : ℕ). take j xs ++ (x ∷ [])) e) ∙ last-append l (take j xs) (m ∷ [])
+
   pub any-take : (xs : List ℕ) (j : ℕ) → j < length xs → anyRead on (take (j + 1) xs) ≡ (anyRead on (take j xs) || on (getD xs j 0))
   unfolding anyRead
   any-take xs j h =
@@ -68,13 +74,13 @@ pub never-empty : (l : Line) → sameBlock l Empty ≡ false
 never-empty Empty = refl
 never-empty (Held n) = refl
 
+pub holds-none : (l : Line) → sameBlock Empty l ≡ false
+holds-none Empty = refl
+holds-none (Held n) = refl
+
 pub empty-not-useful : EmptyNotUseful
 unfolding useful
 empty-not-useful t k c e = rw e (holds-none (nextRead t k c))
-  where
-    holds-none : (l : Line) → sameBlock Empty l ≡ false
-    holds-none Empty = refl
-    holds-none (Held n) = refl
 
 -- nothing is held before the first read, and nothing is read after the last
 

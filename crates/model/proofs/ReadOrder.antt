@@ -46,10 +46,14 @@ module _ (t : Task) where
       rw (take-suc (t .blocks) i (record { time = 0; reads = [] }) h, reads-append (take i (t .blocks)))
       (rw (length-append (readsOf (take i (t .blocks))), append-nil) refl)
 
+  -- the reads after edge i are those of block i + 1 and those after it
+  pub reads-from : (i : ℕ) → i < blockCount t → readsOf (drop i (t .blocks)) ≡ blockAt t i .reads ++ readsOf (drop (suc i) (t .blocks))
+  unfolding blockAt readsOf
+  reads-from i h = ap readsOf (drop-cons (t .blocks) i (record { time = 0; reads = [] }) h)
+
   -- read j of block i + 1
   pub read-at : (i j : ℕ) → i < blockCount t → j < length (blockAt t i .reads) → getD (allReads t) (edge t i + j) 0 ≡ getD (blockAt t i .reads) j 0
-  unfolding blockAt readsOf
   read-at i j h l =
       ap (λ (xs : List ℕ). getD xs (edge t i + j) 0) (halves i) ∙ getD-append-add (readsOf (take i (t .blocks))) (readsOf (drop i (t .blocks))) j 0 ∙
-      ap (λ (bs : List Block). getD (readsOf bs) j 0) (drop-cons (t .blocks) i (record { time = 0; reads = [] }) h) ∙
+      ap (λ (xs : List ℕ). getD xs j 0) (reads-from i h) ∙
       List·getD-append (blockAt t i .reads) (readsOf (drop (suc i) (t .blocks))) 0 j l

@@ -7,11 +7,13 @@ use mathlib.Core.List.{List, [], _∷_}
 use lib.Dec.{eqb}
 use Rattle.model.specs.Sets.{Lines}
 use Rattle.model.specs.Task.{Block, Preempter, Task, blockCount}
-use Rattle.model.specs.Lines.{onLine, useful, accessedUseful, evicted}
+use Rattle.model.specs.Lines.{onLine, nextRead, readsLookedAt, asNext, useful, accessedUseful, evicted}
 use Rattle.model.specs.Lists.{wellFormed, among}
 use Rattle.model.specs.Regions.{loaded, regionLength, lines, cost, fits, BestList, FirstBest, NoPlacementFits}
 use Rattle.model.specs.Answers.{pricing, number, place}
 use Rattle.model.specs.Planning.{chosen, Planned}
+use Rattle.model.specs.declared.Next.{Next}
+use Rattle.model.specs.declared.Next.the-variants.{Read, Never}
 use Rattle.model.specs.declared.Plan.{Plan}
 use Rattle.model.specs.declared.Refusal.{Refusal}
 use Rattle.model.specs.declared.Verdict.{Verdict}
@@ -20,6 +22,7 @@ use Rattle.model.specs.declared.Verdict.the-variants.{Accepted, Refused}
 pub data Case : Type 0 where
   usefulAre : Task → ℕ → List ℕ → Case  -- U(k) is these lines
   accessedUsefulAre : Task → ℕ → List ℕ → Case  -- A(k) is these lines
+  nextIs : Task → ℕ → ℕ → Next → ℕ → Case  -- the next read of line c after block k, and how many reads are looked at
   evictedAre : Task → List ℕ → Case  -- H is these lines
   loadedAre : Task → ℕ → ℕ → List ℕ → Case  -- loaded(a, b) is these lines
   lengthIs : Task → ℕ → ℕ → ℕ → Case  -- the length of region (a, b)
@@ -46,6 +49,7 @@ RefusedBy n i v = (r : Refusal) × (v ≡ Refused r) × (number r ≡ n) × (pla
 abbrev pub CaseHolds : Case → Type 0
 CaseHolds (usefulAre t k ds) = Are (useful t k) ds
 CaseHolds (accessedUsefulAre t k ds) = Are (accessedUseful t k) ds
+CaseHolds (nextIs t c k n l) = (asNext (nextRead t k c) ≡ n) × (readsLookedAt t k c ≡ l)
 CaseHolds (evictedAre t ds) = Are (evicted t) ds
 CaseHolds (loadedAre t a b ds) = Are (loaded t a b) ds
 CaseHolds (lengthIs t a b l) = regionLength t a b ≡ l
@@ -113,6 +117,9 @@ cases =
     -- U(1), U(2), U(3) are {0}; U(4) is empty
     usefulAre (fileSeven 4 60) 1 (0 ∷ []) ∷ usefulAre (fileSeven 4 60) 2 (0 ∷ []) ∷ usefulAre (fileSeven 4 60) 3 (0 ∷ []) ∷
     usefulAre (fileSeven 4 60) 4 [] ∷
+    -- document 02, item 2: the next read of lines 0 and 1 after block 1, of line 2 after block 2, of line 3, and of line 4, which the cache has not
+    nextIs (fileSeven 4 60) 0 1 (Read 0) 2 ∷ nextIs (fileSeven 4 60) 1 1 (Read 5) 3 ∷ nextIs (fileSeven 4 60) 2 2 Never 3 ∷
+    nextIs (fileSeven 4 60) 3 0 Never 6 ∷ nextIs (fileSeven 4 60) 4 0 Never 6 ∷
     -- loaded(1, 3) is {0}; loaded(1, 2) and loaded(3, 4) are empty
     loadedAre (fileSeven 4 60) 1 3 (0 ∷ []) ∷ loadedAre (fileSeven 4 60) 1 2 [] ∷ loadedAre (fileSeven 4 60) 3 4 [] ∷
     -- Q 60: least cost 0, only with point 3

@@ -9,6 +9,8 @@ use Rattle.model.specs.Sets.{Lines}
 use Rattle.model.specs.Task.{Block, Preempter, Task}
 use Rattle.model.specs.declared.Line.{Line}
 use Rattle.model.specs.declared.Line.the-variants.{Empty, Held}
+use Rattle.model.specs.declared.Next.{Next}
+use Rattle.model.specs.declared.Next.the-variants.{Read, Never}
 
 -- the line of memory block m: the one place where a number becomes a line
 unfoldable pub lineOf : Task → ℕ → ℕ
@@ -27,6 +29,11 @@ lastRead on l (m ∷ ms) = lastRead on (cond (on m) (Held m) l) ms
 unfoldable pub firstRead : (ℕ → Bool) → List ℕ → Line
 firstRead on [] = Empty
 firstRead on (m ∷ ms) = cond (on m) (Held m) (firstRead on ms)
+
+-- how many of these reads a search for it looks at: those up to and with the first that lies on the line, or all (document 02, item 2)
+unfoldable pub lookedAt : (ℕ → Bool) → List ℕ → ℕ
+lookedAt on [] = 0
+lookedAt on (m ∷ ms) = suc (cond (on m) 0 (lookedAt on ms))
 
 -- one of these numbers lies on the line
 unfoldable pub anyRead : (ℕ → Bool) → List ℕ → Bool
@@ -61,6 +68,15 @@ stateAfter t k c = lastRead (onLine t c) Empty (readsOf (take k (t .blocks)))
 -- the first number read on line c in basic blocks k + 1 to N
 unfoldable pub nextRead : Task → ℕ → ℕ → Line
 nextRead t k c = firstRead (onLine t c) (readsOf (drop k (t .blocks)))
+
+-- how many reads of basic blocks k + 1 to N are looked at to find it
+unfoldable pub readsLookedAt : Task → ℕ → ℕ → ℕ
+readsLookedAt t k c = lookedAt (onLine t c) (readsOf (drop k (t .blocks)))
+
+-- what the search answers: the number that the line holds at its next read, or none
+abbrev pub asNext : Line → Next
+asNext Empty = Never
+asNext (Held m) = Read m
 
 -- U(k), the useful lines at edge k: they hold some m, and m is read next
 unfoldable pub useful : Task → ℕ → Lines

@@ -6,6 +6,12 @@ pub enum Line {
     Held(u32),
 }
 
+// The next read of a line: a memory block's number, or none.
+pub enum Next {
+    Read(u32),
+    Never,
+}
+
 // Why a call refuses, with the place that the refusal names.
 pub enum Refusal {
     Length,

@@ -7,11 +7,13 @@ use mathlib.Core.List.{List}
 use lib.Dec.{leb, ltb}
 use Rattle.model.specs.Sets.{words}
 use Rattle.model.specs.Task.{blockCount}
-use Rattle.model.specs.Lines.{useful}
+use Rattle.model.specs.Lines.{nextRead, readsLookedAt, asNext, useful}
 use Rattle.model.specs.Regions.{loaded, regionLength, lines, cost}
 use Rattle.model.specs.Answers.{onAccepted, andThen, whose, pricing}
 use Rattle.model.specs.Planning.{chosen, planFor, noPlan, Planned}
 use Rattle.model.specs.declared.Input.{Input}
+use Rattle.model.specs.declared.Next.{Next}
+use Rattle.model.specs.declared.Next.the-variants.{Never}
 use Rattle.model.specs.declared.Refusal.{Refusal}
 use Rattle.model.specs.declared.Refusal.the-variants.{Argument}
 use Rattle.model.specs.declared.Verdict.{Verdict}
@@ -31,6 +33,14 @@ edgeVerdict file k = andThen (verdict file) (cond (leb k (blockCount (taskOf fil
 -- U(k)
 unfoldable pub usefulWords : List ℕ → ℕ → List ℕ
 usefulWords file k = onAccepted (edgeVerdict file k) (words (useful (taskOf file) k)) noWords
+
+-- the search for the next read of a line after block k (document 02, item 2)
+unfoldable pub nextReadOf : List ℕ → ℕ → ℕ → Next
+nextReadOf file c k = onAccepted (edgeVerdict file k) (asNext (nextRead (taskOf file) k c)) Never
+
+-- and how many reads it looks at
+unfoldable pub lookedOf : List ℕ → ℕ → ℕ → ℕ
+lookedOf file c k = onAccepted (edgeVerdict file k) (readsLookedAt (taskOf file) k c) 0
 
 -- a region (a, b): 7 at 0 unless 0 ≤ a < b ≤ N
 unfoldable pub regionVerdict : List ℕ → ℕ → ℕ → Verdict

@@ -4,9 +4,10 @@ ghost use Rattle.model.specs.Answers.{onAccepted};
 ghost use Rattle.model.specs.Planning.{noPlan};
 ghost use Rattle.taskfile.specs.File.{verdict};
 ghost use Rattle.planblock.specs.Plans.{storeVerdict, stored, readVerdict, planOf};
-ghost use Rattle.planner.specs.Calls.{noWords, edgeVerdict, usefulWords, regionVerdict, loadedWords, lengthOf, priceVerdict, priceLines, priceCost, blockVerdict, blockInput, blockPlan, PlanAnswer};
+ghost use Rattle.planner.specs.Calls.{noWords, edgeVerdict, usefulWords, nextReadOf, lookedOf, regionVerdict, loadedWords, lengthOf, priceVerdict, priceLines, priceCost, blockVerdict, blockInput, blockPlan, PlanAnswer};
 use lineset::LineSet;
 use model::Input;
+use model::Next;
 use model::Plan;
 use model::Refusal;
 use model::Verdict;
@@ -18,6 +19,13 @@ use prices::Price;
 pub struct UsefulLines {
     pub verdict: Verdict,
     pub lines: LineSet,
+}
+
+// The next read of a line, and how many reads were looked at to find it.
+pub struct NextRead {
+    pub verdict: Verdict,
+    pub next: Next,
+    pub looked: usize,
 }
 
 // A region's loaded lines and its length.
@@ -34,27 +42,65 @@ pub struct BlockPrice {
     pub plan: Plan,
 }
 
+// Whether k is an edge of an accepted file: the file's refusal, or 7 for k above N.
+fn check_edge(file: &[u8], k: usize) -> Verdict
+    ensures { λ r. ⌜ r ≡ edgeVerdict (now (file .entry)) k ⌝ }
+{
+    let checked = taskfile::check(file);
+    let Verdict::Accepted = checked else {
+        return checked;
+    };
+    if taskfile::block_count(file) < k {
+        return Verdict::Refused(Refusal::Argument(0));
+    }
+    Verdict::Accepted
+}
+
 // U(k) of a file.
 pub fn useful(file: &[u8], k: usize) -> UsefulLines
     ensures { λ r. ⌜ r .verdict ≡ edgeVerdict (now (file .entry)) k ⌝ }
     ensures { λ r. ⌜ r .lines .words ≡ usefulWords (now (file .entry)) k ⌝ }
 {
-    let checked = taskfile::check(file);
+    let checked = check_edge(file, k);
     let Verdict::Accepted = checked else {
         return UsefulLines {
             verdict: checked,
             lines: LineSet::empty(),
         };
     };
-    if taskfile::block_count(file) < k {
-        return UsefulLines {
-            verdict: Verdict::Refused(Refusal::Argument(0)),
-            lines: LineSet::empty(),
-        };
-    }
     UsefulLines {
         verdict: Verdict::Accepted,
         lines: reuse::useful_lines(file, k),
+    }
+}
+
+// The next read of a line after block k; nothing lies on a line that the cache has not.
+pub fn next_read(file: &[u8], line: usize, k: usize) -> NextRead
+    ensures { λ r. ⌜ r .verdict ≡ edgeVerdict (now (file .entry)) k ⌝ }
+    ensures { λ r. ⌜ r .next ≡ nextReadOf (now (file .entry)) line k ⌝ }
+    ensures { λ r. ⌜ r .looked ≡ lookedOf (now (file .entry)) line k ⌝ }
+{
+    let checked = check_edge(file, k);
+    let Verdict::Accepted = checked else {
+        return no_read(checked);
+    };
+    let found = reuse::next_read(file, k, line);
+    let next = found.next;
+    NextRead {
+        verdict: Verdict::Accepted,
+        next,
+        looked: found.looked,
+    }
+}
+
+// What is answered of a search that is refused.
+fn no_read(verdict: Verdict) -> NextRead
+    ensures { λ r. ⌜ (r .verdict ≡ verdict) × (r .next ≡ Next.Never) × (r .looked ≡ 0) ⌝ }
+{
+    NextRead {
+        verdict,
+        next: Next::Never,
+        looked: 0,
     }
 }
 

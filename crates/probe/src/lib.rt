@@ -1,16 +1,18 @@
-// For tests: the useful lines of an edge, and the loaded lines and the length of a region, through the planner's calls.
-// A set is eight words of eight bytes, their lowest byte first.
+// For tests: the useful lines of an edge, the next read of a line, and the loaded lines and the length of a region, through the planner's calls.
+// A set is eight words of eight bytes, their lowest byte first, and other numbers have eight bytes too.
 ghost use mathlib.Core.List.{[], _∷_, _++_};
 ghost use mathlib.Core.Path.{_≡_};
 ghost use Prim.Native.Nat.{_≤_};
 ghost use lib.ListN.{length, take};
 ghost use Rattle.model.specs.Answers.{onAccepted};
 ghost use Rattle.block.specs.Bytes.{les};
-ghost use Rattle.probe.specs.Calls.{usefulReturned, usefulLeft, regionReturned, regionLeft};
+ghost use Rattle.probe.specs.Calls.{usefulReturned, usefulLeft, nextReturned, nextLeft, nextNumbers, regionReturned, regionLeft};
 use lineset::LineSet;
 use model::Input;
+use model::Next;
 use model::Refusal;
 use model::Verdict;
+use planner::NextRead;
 use planner::RegionLines;
 use planner::UsefulLines;
 
@@ -26,6 +28,21 @@ pub extern "C" fn probe_useful(file: &[u8], k: usize, out: &mut [u8]) -> u32
     let found = planner::useful(file, k);
     let verdict = found.verdict;
     keep_useful(found, out);
+    answers::returned(Input::First, verdict)
+}
+
+// The next read of a line after block k, in 24 bytes: 1 and its number or two zeros, and how many reads were looked at.
+#[no_mangle]
+pub extern "C" fn probe_next_read(file: &[u8], line: usize, k: usize, out: &mut [u8]) -> u32
+    ensures { λ r. ⌜ r ≡ nextReturned (now (file .entry)) k (now (out .entry)) ⌝ }
+    ensures { λ _. ⌜ now (out .exit) ≡ nextLeft (now (file .entry)) line k (now (out .entry)) ⌝ }
+{
+    if out.len() != 24 {
+        return answers::returned(Input::First, Verdict::Refused(Refusal::Output));
+    }
+    let found = planner::next_read(file, line, k);
+    let verdict = found.verdict;
+    keep_read(found, out);
     answers::returned(Input::First, verdict)
 }
 
@@ -54,6 +71,41 @@ fn keep_useful(useful: UsefulLines, out: &mut [u8])
         Verdict::Accepted => put_lines(useful.lines, out),
         Verdict::Refused(_) => {}
     }
+}
+
+// Leaves an accepted search in the bytes.
+fn keep_read(read: NextRead, out: &mut [u8])
+    requires { ⌜ length (now out) ≡ 24 ⌝ }
+    ensures { λ _. ⌜ now (out .exit) ≡ onAccepted (read .verdict) (les 8 (nextNumbers (read .next) (read .looked))) (now (out .entry)) ⌝ }
+{
+    let verdict = read.verdict;
+    match verdict {
+        Verdict::Accepted => put_read(read, out),
+        Verdict::Refused(_) => {}
+    }
+}
+
+// Stores what a search found.
+fn put_read(read: NextRead, out: &mut [u8])
+    requires { ⌜ length (now out) ≡ 24 ⌝ }
+    ensures { λ _. ⌜ now (out .exit) ≡ les 8 (nextNumbers (read .next) (read .looked)) ⌝ }
+{
+    let looked = read.looked as u64;
+    let next = read.next;
+    match next {
+        Next::Read(number) => put_numbers(1, number as u64, looked, out),
+        Next::Never => put_numbers(0, 0, looked, out),
+    }
+}
+
+// Stores three numbers.
+fn put_numbers(a: u64, b: u64, c: u64, out: &mut [u8])
+    requires { ⌜ length (now out) ≡ 24 ⌝ }
+    ensures { λ _. ⌜ now (out .exit) ≡ les 8 (a ∷ b ∷ c ∷ []) ⌝ }
+{
+    block::put_u64(out, 0, a);
+    block::put_u64(out, 8, b);
+    block::put_u64(out, 16, c);
 }
 
 // Leaves an accepted region in the bytes.

@@ -1,2 +1,5 @@
 pub mod Walk
 pub mod Steps
+pub mod Looked
+pub mod States
+pub mod Below

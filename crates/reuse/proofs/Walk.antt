@@ -15,7 +15,7 @@ use borrow.Author.Tests.{lt-ltb, le-ltb, le-leb, lt-leb, ltb-true, ltb-false}
 use Rattle.model.specs.Lines.{lastRead, firstRead, anyRead, sameBlock}
 use Rattle.model.specs.declared.Line.{Line}
 use Rattle.model.specs.declared.Line.the-variants.{Empty, Held}
-use Rattle.model.proofs.LineStates.{never-empty, last-append, any-append, last-unread, first-none, first-append}
+use Rattle.model.proofs.LineStates.{never-empty, last-append, last-take, any-append, last-unread, first-none, first-append}
 use Rattle.edgesets.proofs.Toggles.{xor-false, false-xor}
 
 -- reads is every read in order, and edge k comes after the first `edge k` of them; on tells which numbers lie on the line
@@ -54,8 +54,7 @@ module _ (reads : List ℕ) (edge : ℕ → ℕ) (on : ℕ → Bool) where
     above-same k h = above k (suc p) h (omega arith) ∙ sym (above k p h (omega arith))
 
     held-more : lastRead on Empty (take (suc p) reads) ≡ cond (on m) (Held m) (lastRead on Empty (take p reads))
-    unfolding lastRead
-    held-more = ap (lastRead on Empty) more ∙ last-append on Empty (take p reads) (m ∷ [])
+    held-more = last-take on Empty reads p m inside is
 
     any-more : (k : ℕ) → k < b → anyRead on (drop (edge k) (take (suc p) reads)) ≡ (anyRead on (drop (edge k) (take p reads)) || on m)
     unfolding anyRead

@@ -1,11 +1,12 @@
-// For an accepted file: the lines that are useful at each edge, those of them that each block reads, and those that the preempters evict.
+// For an accepted file: the next read of a line, the lines that are useful at each edge, those of them that each block reads, and those that
+// the preempters evict.
 ghost use mathlib.Core.Bool.{false, _&&_, _||_, xor};
 ghost use mathlib.Core.Path.{_≡_};
 ghost use Prim.Native.Nat.{ℕ, _+_, _<_, _≤_};
 ghost use lib.Dec.{eqb, leb, ltb};
 ghost use lib.ListN.{length, getD, replicate};
 ghost use Rattle.model.specs.Task.{blockCount};
-ghost use Rattle.model.specs.Lines.{onLine, anyRead, evicted, sameBlock};
+ghost use Rattle.model.specs.Lines.{onLine, firstRead, lookedAt, anyRead, sameBlock, stateAfter, nextRead, readsLookedAt, asNext, evicted};
 ghost use Rattle.model.specs.Lines as Lines;
 ghost use Rattle.lineset.specs.Members.{members};
 ghost use Rattle.taskfile.specs.File.{verdict, header, taskOf, entryReads};
@@ -15,12 +16,19 @@ ghost use Rattle.reuse.specs.Ready.{Ready, Collected};
 use cacheline::Cache;
 use lineset::LineSet;
 use model::Line;
+use model::Next;
 use model::Verdict;
 
 // Set k of the array is U(k), set ACCESSED_USEFUL + k is A(k), and set EVICTED is H.
 pub const ACCESSED_USEFUL: usize = 65;
 
 pub const EVICTED: usize = 130;
+
+// What a search for the next read of a line finds, and how many reads it looked at.
+pub struct Search {
+    pub next: Next,
+    pub looked: usize,
+}
 
 // Finds the sets of all edges; the array is lent with zeros everywhere.
 pub fn find_lines(file: &[u8], sets: &mut [u64; 1048])
@@ -33,14 +41,128 @@ pub fn find_lines(file: &[u8], sets: &mut [u64; 1048])
     edgesets::put(sets, EVICTED, evicted_lines(file));
 }
 
-// U(k).
+// The next read of line c after block k.
+pub fn next_read(file: &[u8], k: usize, c: usize) -> Search
+    requires { ⌜ (verdict (now file) ≡ Verdict.Accepted) × (k ≤ blockCount (taskOf (now file))) ⌝ }
+    ensures { λ r. ⌜ r .next ≡ asNext (nextRead (taskOf (now (file .entry))) k c) ⌝ }
+    ensures { λ r. ⌜ r .looked ≡ readsLookedAt (taskOf (now (file .entry))) k c ⌝ }
+{
+    search_from(file, cacheline::cache_of(file), k, c)
+}
+
+// The same with the file's cache at hand, block after block; it ends at the first read that lies on the line.
+fn search_from(file: &[u8], cache: Cache, k: usize, c: usize) -> Search
+    requires { ⌜ (verdict (now file) ≡ Verdict.Accepted) × (k ≤ blockCount (taskOf (now file))) × CacheOf (taskOf (now file)) cache ⌝ }
+    ensures { λ r. ⌜ r .next ≡ asNext (nextRead (taskOf (now (file .entry))) k c) ⌝ }
+    ensures { λ r. ⌜ r .looked ≡ readsLookedAt (taskOf (now (file .entry))) k c ⌝ }
+{
+    let blocks = taskfile::block_count(file);
+    let mut looked = 0;
+    let mut i = k;
+    while i < blocks {
+        let found = search_block(file, cache, i + 1, c);
+        let next = found.next;
+        looked += found.looked;
+        let Next::Never = next else {
+            return Search { next, looked };
+        };
+        i += 1;
+    }
+    Search {
+        next: Next::Never,
+        looked,
+    }
+}
+
+// The first read of line c in block k of the file.
+fn search_block(file: &[u8], cache: Cache, k: usize, c: usize) -> Search
+    requires { ⌜ (verdict (now file) ≡ Verdict.Accepted) × (1 ≤ k) × (k ≤ header (now file) .blocks + header (now file) .preempters) ⌝ }
+    requires { ⌜ CacheOf (taskOf (now file)) cache ⌝ }
+    ensures { λ r. ⌜ r .next ≡ asNext (firstRead (onLine (taskOf (now (file .entry))) c) (entryReads (now (file .entry)) k)) ⌝ }
+    ensures { λ r. ⌜ (r .looked ≡ lookedAt (onLine (taskOf (now (file .entry))) c) (entryReads (now (file .entry)) k)) × (r .looked ≤ 124) ⌝ }
+{
+    let reads = taskfile::read_count(file, k);
+    let mut left = reads;
+    while 0 < left {
+        let at = reads - left;
+        let number = taskfile::read(file, k, at);
+        if cache.lies_on(number, c) {
+            let looked = at + 1;
+            return Search {
+                next: Next::Read(number),
+                looked,
+            };
+        }
+        left -= 1;
+    }
+    Search {
+        next: Next::Never,
+        looked: reads,
+    }
+}
+
+// U(k): what each line holds after block k, and one search for each line that holds something.
 pub fn useful_lines(file: &[u8], k: usize) -> LineSet
     requires { ⌜ (verdict (now file) ≡ Verdict.Accepted) × (k ≤ blockCount (taskOf (now file))) ⌝ }
     ensures { λ r. ⌜ ((c : ℕ) → members r c ≡ Lines.useful (taskOf (now (file .entry))) k c) ⌝ }
 {
-    let mut sets = [0u64; 1048];
-    find_lines(file, &mut sets);
-    edgesets::lines_at(&sets, k)
+    let cache = cacheline::cache_of(file);
+    let count = cache.count as usize;
+    let held = held_after(file, cache, k);
+    let mut lines = LineSet::empty();
+    let mut c = 0;
+    while c < count {
+        let line = held[c];
+        lines = with_marked(lines, c, is_reread(file, cache, k, c, line));
+        c += 1;
+    }
+    lines
+}
+
+// What each line holds after basic blocks 1 to k.
+fn held_after(file: &[u8], cache: Cache, k: usize) -> [Line; 512]
+    requires { ⌜ (verdict (now file) ≡ Verdict.Accepted) × (k ≤ blockCount (taskOf (now file))) × CacheOf (taskOf (now file)) cache ⌝ }
+    ensures { λ r. ⌜ (length r ≡ 512) × ((c : ℕ) → c < 512 → getD r c Line.Empty ≡ stateAfter (taskOf (now (file .entry))) k c) ⌝ }
+{
+    let mut held = [Line::Empty; 512];
+    let mut i = 0;
+    while i < k {
+        let b = i + 1;
+        let reads = taskfile::read_count(file, b);
+        let mut j = 0;
+        while j < reads {
+            let number = taskfile::read(file, b, j);
+            let c = cache.line_of(number);
+            held[c] = Line::Held(number);
+            j += 1;
+        }
+        i += 1;
+    }
+    held
+}
+
+// Whether line c, which holds this after block k, is read next for the same memory block.
+fn is_reread(file: &[u8], cache: Cache, k: usize, c: usize, line: Line) -> bool
+    requires { ⌜ (verdict (now file) ≡ Verdict.Accepted) × (k ≤ blockCount (taskOf (now file))) × CacheOf (taskOf (now file)) cache ⌝ }
+    ensures { λ r. ⌜ r ≡ sameBlock line (nextRead (taskOf (now (file .entry))) k c) ⌝ }
+{
+    match line {
+        Line::Empty => false,
+        Line::Held(number) => is_next(file, cache, k, c, number),
+    }
+}
+
+// Whether the next read of line c after block k is of this memory block.
+fn is_next(file: &[u8], cache: Cache, k: usize, c: usize, number: u32) -> bool
+    requires { ⌜ (verdict (now file) ≡ Verdict.Accepted) × (k ≤ blockCount (taskOf (now file))) × CacheOf (taskOf (now file)) cache ⌝ }
+    ensures { λ r. ⌜ r ≡ sameBlock (Line.Held number) (nextRead (taskOf (now (file .entry))) k c) ⌝ }
+{
+    let found = search_from(file, cache, k, c);
+    let next = found.next;
+    match next {
+        Next::Never => false,
+        Next::Read(m) => number == m,
+    }
 }
 
 // H: the lines that the preempters evict. They are marked first, and each is then added to the set once.

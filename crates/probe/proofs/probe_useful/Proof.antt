@@ -5,7 +5,7 @@ use native.Mathlib.Omega.{arith}
 use lib.ListN.{length}
 use borrow.Author.Tests.{eq-eqb, ne-eqb}
 use Rattle.probe.specs.Calls.{usefulReturned, usefulLeft}
-use Rattle.probe.proofs.Calls.{useful-most}
+use Rattle.probe.proofs.Calls.{edge-most}
 use borrow.Author.Needs.{needs}
 use Rattle.probe.proofs.probe_useful.Statement.{statement}
 use Rattle.probe.proofs.probe_useful.Tie as tie
@@ -26,7 +26,7 @@ keep-useful-requires c κs = search needs
 returned-requires-2 : tie.Need-returned-requires-2
 returned-requires-2 c κs =
     let start = c .before .before .before .before .before .before .before .before in
-    rw (c .before .before .before .before .useful .ensures .0) (useful-most (start .args .file .now) (start .args .k))
+    rw (c .before .before .before .before .useful .ensures .0) (edge-most (start .args .file .now) (start .args .k))
 
 same-length : tie.Need-same-length
 same-length c = search needs

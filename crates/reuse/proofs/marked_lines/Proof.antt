@@ -1,27 +1,17 @@
 -- `reuse::marked_lines` meets its contract. The loop's invariant: the set is the marked lines below c.
 -- Assumes nothing.
-use Prim.Native.Nat.{ℕ, _+_, _-_, _≤_}
+use Prim.Native.Nat.{ℕ, _-_, _≤_}
 use mathlib.Core.Path.{_≡_, refl, ap, _∙_}
-use mathlib.Core.Bool.{Bool, false, _&&_, _||_, or-false}
-use mathlib.Core.Logic.{by-cases}
-use native.Mathlib.Decide.{decLt, ℕ-discrete}
+use mathlib.Core.Bool.{Bool, false, _&&_, _||_}
 use native.Mathlib.Omega.{arith}
 use lib.Dec.{eqb, ltb}
 use lib.ListN.{getD}
-use borrow.Author.Tests.{eq-eqb, ne-eqb, lt-ltb, le-ltb}
+use borrow.Author.Tests.{le-ltb}
 use Rattle.lineset.specs.Members.{members}
 use borrow.Author.Needs.{needs}
+use Rattle.reuse.proofs.Below.{one-more}
 use Rattle.reuse.proofs.marked_lines.Statement.{statement}
 use Rattle.reuse.proofs.marked_lines.Tie as tie
-
--- the marked lines below c, and line c if it is marked
-one-more : (m : ℕ → Bool) (c d : ℕ) → (ltb d c && m d || eqb d c && m c) ≡ (ltb d (c + 1) && m d)
-one-more m c d =
-    by-cases (ℕ-discrete d c) (λ e. rw (e, eq-eqb c c refl, le-ltb c c (omega arith), lt-ltb c (c + 1) (omega arith)) refl)
-    (λ n.
-    rw (ne-eqb d c n, or-false)
-    (by-cases (decLt d c) (λ h. rw (lt-ltb d c h, lt-ltb d (c + 1) (omega arith)) refl)
-    (λ h. rw (le-ltb d c (omega arith), le-ltb d (c + 1) (omega arith)) refl)))
 
 abbrev Inv-loop : tie.InvT-loop
 Inv-loop marks count set₀ c₀ set c = (c ≤ count) × ((d : ℕ) → members set d ≡ (ltb d c && getD marks d false))

@@ -1,0 +1,105 @@
+//! The next read of a line and the useful lines of an edge in plain Rust.
+
+use crate::fast::{code, numbers, open, Task};
+
+/// The next read of a line after block k, and how many reads were looked at.
+fn search(task: &Task, line: usize, k: usize) -> (Option<u32>, usize) {
+    let mut looked = 0;
+    for block in task.blocks().skip(k) {
+        for m in numbers(block) {
+            looked += 1;
+            if task.lines.of(m) == line {
+                return (Some(m), looked);
+            }
+        }
+    }
+    (None, looked)
+}
+
+/// What each line holds after blocks 1 to k.
+fn held_after(task: &Task, k: usize) -> [Option<u32>; 512] {
+    let mut held = [None; 512];
+    for block in task.blocks().take(k) {
+        for m in numbers(block) {
+            held[task.lines.of(m)] = Some(m);
+        }
+    }
+    held
+}
+
+/// One search for each line that holds something, as the planner does.
+fn useful_by_searches(task: &Task, k: usize) -> [u64; 8] {
+    let mut words = [0; 8];
+    for (c, number) in held_after(task, k).iter().enumerate() {
+        if number.is_some() && *number == search(task, c, k).0 {
+            words[c / 64] |= 1 << (c % 64);
+        }
+    }
+    words
+}
+
+/// One walk over the reads after block k for all lines: the first read of a line decides, and the
+/// walk ends when every line that holds something was read.
+fn useful_by_walk(task: &Task, k: usize) -> [u64; 8] {
+    let mut words = [0; 8];
+    let mut held = held_after(task, k);
+    let mut open = held.iter().flatten().count();
+    for block in task.blocks().skip(k) {
+        for m in numbers(block) {
+            let c = task.lines.of(m);
+            if let Some(number) = held[c].take() {
+                words[c / 64] |= ((number == m) as u64) << (c % 64);
+                open -= 1;
+            }
+        }
+        if open == 0 {
+            break;
+        }
+    }
+    words
+}
+
+fn put(words: &[u64], out: &mut [u8]) {
+    for (place, word) in out.chunks_exact_mut(8).zip(words) {
+        place.copy_from_slice(&word.to_le_bytes());
+    }
+}
+
+/// The refusals of a call, and otherwise the words that it leaves.
+fn answer<const W: usize>(
+    file: &[u8],
+    k: usize,
+    out: &mut [u8],
+    words: impl Fn(&Task) -> [u64; W],
+) -> u32 {
+    if out.len() != 8 * W {
+        return code(9, 0);
+    }
+    match open(file) {
+        Err(refusal) => refusal,
+        Ok(task) if k > task.n => code(7, 0),
+        Ok(task) => {
+            put(&words(&task), out);
+            0
+        }
+    }
+}
+
+pub fn next_read(file: &[u8], line: usize, k: usize, out: &mut [u8]) -> u32 {
+    answer(file, k, out, |task| {
+        let (number, looked) = search(task, line, k);
+        [
+            number.is_some() as u64,
+            number.unwrap_or(0) as u64,
+            looked as u64,
+        ]
+    })
+}
+
+pub fn searched(file: &[u8], k: usize, out: &mut [u8]) -> u32 {
+    answer(file, k, out, |task| useful_by_searches(task, k))
+}
+
+pub fn walked(file: &[u8], k: usize, out: &mut [u8]) -> u32 {
+    answer(file, k, out, |task| useful_by_walk(task, k))
+}

@@ -1,0 +1,131 @@
+-- `reuse::held_after` meets its contract. Both loops keep what the lines hold after the reads passed.
+-- Assumes nothing.
+use Prim.Native.Nat.{_+_, _-_, _≤_, _<_}
+use mathlib.Core.Path.{_≡_, refl, sym, _∙_}
+use native.Mathlib.Nat.{add-zero, add-assoc}
+use native.Mathlib.Omega.{arith}
+use native.Mathlib.Numerals.{add-one}
+use lib.ListN.{length, replicate, getD-replicate}
+use borrow.Author.Needs.{needs}
+use Rattle.model.specs.Task.{blockCount}
+use Rattle.model.specs.Lines.{blockAt, readsOf, stateAfter}
+use Rattle.model.specs.declared.Line.the-variants.{Empty}
+use Rattle.model.proofs.ReadOrder.{edge, edge-suc, take-edge}
+use Rattle.taskfile.specs.File.{taskOf}
+use Rattle.taskfile.proofs.Accepted as accepted-file
+use Rattle.reuse.proofs.States.{Holds, holds-none, holds-more}
+use Rattle.reuse.proofs.held_after.Statement.{statement}
+use Rattle.reuse.proofs.held_after.Tie as tie
+
+abbrev Inv-loop2 : tie.InvT-loop2
+Inv-loop2 file cache k held₀ i b reads j₀ held j = (j ≤ reads) × Holds (taskOf file) (edge (taskOf file) i + j) held
+
+abbrev μ-loop2 : tie.MeasureT-loop2
+μ-loop2 file cache k held₀ i b reads j₀ held j = reads - j
+
+abbrev Inv-loop : tie.InvT-loop
+Inv-loop file cache k held₀ i₀ held i = (i ≤ k) × Holds (taskOf file) (edge (taskOf file) i) held
+
+abbrev μ-loop : tie.MeasureT-loop
+μ-loop file cache k held₀ i₀ held i = k - i
+
+loop-holds : tie.Need-loop-holds Inv-loop2 μ-loop2 Inv-loop μ-loop
+unfolding readsOf
+loop-holds c = (omega arith, holds-none _ (replicate 512 Empty) refl (λ d h. getD-replicate 512 d Empty Empty h))
+
+add-b : tie.Need-add-b Inv-loop2 μ-loop2 Inv-loop μ-loop
+add-b c = omega arith
+
+read-count-requires : tie.Need-read-count-requires Inv-loop2 μ-loop2 Inv-loop μ-loop
+read-count-requires c κs =
+    let start = c .before .before .before in
+    (start .pre .0, omega arith, omega (arith, start .pre .1, accepted-file.block-count (start .args .file .now)))
+
+loop2-holds : tie.Need-loop2-holds Inv-loop2 μ-loop2 Inv-loop μ-loop
+loop2-holds c = (omega arith, rw add-zero (c .before .before .loop .inv .1))
+
+read-requires : tie.Need-read-requires Inv-loop2 μ-loop2 Inv-loop μ-loop
+read-requires c κs =
+    let start = c .before .before .before .before .before .before in
+    ((start .pre .0, omega arith, omega (arith, start .pre .1, accepted-file.block-count (start .args .file .now))), omega arith)
+
+line-of-requires : tie.Need-line-of-requires Inv-loop2 μ-loop2 Inv-loop μ-loop
+line-of-requires c κs = search needs
+
+mul-held : tie.Need-mul-held Inv-loop2 μ-loop2 Inv-loop μ-loop
+mul-held c = omega arith
+
+array-set-from-held : tie.Need-array-set-from-held Inv-loop2 μ-loop2 Inv-loop μ-loop
+array-set-from-held c = omega arith
+
+add-j : tie.Need-add-j Inv-loop2 μ-loop2 Inv-loop μ-loop
+add-j c = omega arith
+
+loop2-less : tie.Need-loop2-less Inv-loop2 μ-loop2 Inv-loop μ-loop
+loop2-less c = omega arith
+
+loop2-again : tie.Need-loop2-again Inv-loop2 μ-loop2 Inv-loop μ-loop
+loop2-again c =
+    let start = c .before .before .before .before .before .before .before .before in
+    let file = start .args .file .now in
+    let outer = c .before .before .before .before .before .before .loop in
+    let inner = c .before .before .before .loop2 in
+    let number = c .before .read in
+    let inside : outer .i < blockCount (taskOf file) = omega (arith, start .pre .1) in
+    let reads-are = accepted-file.reads-at file (outer .i) (omega (arith, start .pre .1, accepted-file.block-count file)) in (
+      omega arith,
+      rw (← add-assoc, add-one)
+          (holds-more (taskOf file) (outer .i) (inner .j) (number .result) (c .line-of .result) (inner .held) inside (rw reads-are (omega arith)) (rw reads-are (sym (number .ensures)))
+          (c .line-of .ensures .0 (taskOf file) (start .pre .2)) (c .line-of .ensures .1) (inner .inv .1)),
+    )
+
+add-i : tie.Need-add-i Inv-loop2 μ-loop2 Inv-loop μ-loop
+add-i c = omega arith
+
+loop-less : tie.Need-loop-less Inv-loop2 μ-loop2 Inv-loop μ-loop
+loop-less c = omega arith
+
+loop-again : tie.Need-loop-again Inv-loop2 μ-loop2 Inv-loop μ-loop
+loop-again c =
+    let start = c .before .before .before .before .before .before in
+    let file = start .args .file .now in
+    let outer = c .before .before .before .before .loop in
+    let inner = c .before .loop2 in
+    let reads-are = accepted-file.reads-at file (outer .i) (omega (arith, start .pre .1, accepted-file.block-count file)) in
+    let whole : length (blockAt (taskOf file) (outer .i) .reads) ≡ inner .j = rw reads-are (omega arith) in
+    let there : edge (taskOf file) (outer .i + 1) ≡ edge (taskOf file) (outer .i) + inner .j =
+    rw (add-one, edge-suc (taskOf file) (outer .i) (omega (arith, start .pre .1)), whole) refl in
+    (omega arith, rw there (inner .inv .1))
+
+returns : tie.Need-returns Inv-loop2 μ-loop2 Inv-loop μ-loop
+unfolding stateAfter
+returns c =
+    let start = c .before .before .before in
+    let t = taskOf (start .args .file .now) in
+    let l = c .before .loop in
+    let done : l .i ≡ start .args .k = omega arith in
+    (l .inv .1 .long, λ d h. l .inv .1 .states d h ∙ rw (done, take-edge t (start .args .k)) refl)
+
+pub held-after-spec : {M : Type 1} → statement M
+held-after-spec =
+    tie.close
+    (tie.spec
+    Inv-loop2
+    μ-loop2
+    Inv-loop
+    μ-loop
+    loop-holds
+    add-b
+    read-count-requires
+    loop2-holds
+    read-requires
+    line-of-requires
+    mul-held
+    array-set-from-held
+    add-j
+    loop2-less
+    loop2-again
+    add-i
+    loop-less
+    loop-again
+    returns)

@@ -40,7 +40,7 @@ class Task:
         self.n = len(blocks)
         self.evicted = {m % s for _, reads in preempters for m in reads}
         self.useful = [self.useful_at(k) for k in range(self.n + 1)]
-        self.accessed = [set()] + [self.useful[k] & self.touched(k) for k in range(1, self.n + 1)]
+        self.accessed = [set()] + [{m % s for m in reads} for _, reads in blocks]  # T(k), with an empty T(0) before
 
     def file(self):
         b = header(self.n, len(self.preempters), self.s, self.q, self.r, self.ident)
@@ -49,10 +49,6 @@ class Task:
         for i, (ident, reads) in enumerate(self.preempters):
             b += entry(3, 1 + self.n + i, ident, reads)
         return b
-
-    def touched(self, k):
-        """T(k)."""
-        return {m % self.s for m in self.blocks[k - 1][1]}
 
     def useful_at(self, k):
         """U(k)."""
@@ -66,6 +62,7 @@ class Task:
         return {c for c in held if first.get(c) == held[c]}
 
     def loaded(self, a, b):
+        """Useful at a, evicted, and read in the region, be it for the last time."""
         return self.useful[a] & self.evicted & set().union(*self.accessed[a + 1 : b + 1])
 
     def length(self, a, b):
@@ -227,18 +224,20 @@ def planner_tasks():
     lone = [(60, [0])]
     high = [(30, [300, 512]), (20, [512, 44, 300]), (20, [300, 512])]
     preempters = [(1, [812]), (2, [0])]  # lines 300 and 0
-    same = [(MOST, [1]), (0, [1]), (MOST, [1])]
+    wide = [(MOST, [1]), (1, []), (0, [1]), (0, [1])]  # points 1 and 2 are in every list that fits; 3 reloads line 1 once more
     return [
+        ("seven-70", seven(70)),  # 1 and 1, 2 cost the same, and 1 begins the other
         ("seven-60", seven(60)),
         ("seven-40", seven(40)),
         ("seven-30", seven(30)),
         ("seven-29", seven(29)),
         ("one-60", seven(60, lone)),
         ("one-59", seven(59, lone)),
-        ("same-read", seven(60, [(20, [0])] * 4)),  # regions (1, 2) and (2, 3) reload line 0
+        ("last-read", seven(40, [(20, [0]), (20, [2]), (20, [0])])),  # the last read of line 0 is its only reload
+        ("same-read", seven(60, [(20, [0])] * 4)),  # regions (1, 2), (2, 3) and (3, 4) reload line 0
         ("high-70", Task(512, 70, 10, 3, high, preempters)),
         ("high-45", Task(512, 45, 10, 3, high, preempters)),
-        ("wide", Task(512, MOST, MOST, MOST, same, [(0, [1])])),
+        ("wide", Task(512, MOST, MOST, MOST, wide, [(0, [1])])),
         ("largest", largest_task()),
     ]
 

@@ -31,19 +31,27 @@ usage() {
 }
 
 # File Seven
-at_3='task 7 blocks 4 points 1 lines 0 cost 0
+at_1_2='task 7 blocks 4 points 2 lines 1 cost 10
+region 0 1 length 20
+region 1 2 length 20
+region 2 4 length 50'
+at_3='task 7 blocks 4 points 1 lines 1 cost 10
 region 0 3 length 60
-region 3 4 length 20'
-at_2_3='task 7 blocks 4 points 2 lines 1 cost 10
+region 3 4 length 30'
+at_2_3='task 7 blocks 4 points 2 lines 2 cost 20
 region 0 2 length 40
 region 2 3 length 30
-region 3 4 length 20'
-at_1_2_3='task 7 blocks 4 points 3 lines 1 cost 10
+region 3 4 length 30'
+at_1_2_3='task 7 blocks 4 points 3 lines 2 cost 20
 region 0 1 length 20
 region 1 2 length 20
 region 2 3 length 30
-region 3 4 length 20'
-prints $seven-60 "$at_3" plan
+region 3 4 length 30'
+prints $seven-70 'task 7 blocks 4 points 1 lines 1 cost 10
+region 0 1 length 20
+region 1 4 length 70' plan
+prints $seven-60 "$at_1_2" plan
+prints $seven-60 "$at_1_2" price 1 2
 prints $seven-60 "$at_3" price 3
 prints $seven-60 "$at_3" price 003
 prints $seven-40 "$at_1_2_3" plan
@@ -58,6 +66,12 @@ prints $seven-60 'refused 8 at 0' price
 prints $seven-60 'refused 7 at 1' price 2 2
 prints $seven-60 'refused 7 at 0' price 0
 prints $seven-60 'refused 7 at 0' price 65535
+
+# the last read of line 0 is its only reload
+prints crates/planner_cases/data/last-read 'task 7 blocks 3 points 2 lines 1 cost 10
+region 0 1 length 20
+region 1 2 length 20
+region 2 3 length 30' plan
 
 # the file's refusals come before those of the list
 prints /dev/null 'refused 1 at 0' price 2 2

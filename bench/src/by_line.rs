@@ -1,5 +1,5 @@
-//! One word per line instead, with a bit for every edge: no branch in the walk, and a line joins
-//! the stretches from a at the first block after a that is in its word of A.
+//! One word per line instead, with a bit for every edge: no branch in the walk, and a line that is
+//! useful at a joins the stretches from a at the first block after a that reads it.
 
 use crate::fast::{numbers, Method, Task, MOST_BASIC};
 use std::hint::select_unpredictable;
@@ -10,15 +10,17 @@ struct Line {
     struck: bool,
     /// Bits below the block last read; all ones while the line is empty.
     below: u64,
+    /// Bit a: useful at edge a.
     useful: u64,
-    touched: u64,
+    /// Bit k - 1: block k reads it.
+    accessed: u64,
 }
 
 pub struct ByLine {
     count: usize,
-    /// The words of U and A, for the lines in H that are useful somewhere.
+    /// The words of U and T, for the lines in H that are useful somewhere.
     words: [(u64, u64); 512],
-    /// [a][b]: lines in loaded(a, b) that aren't in loaded(a, b - 1).
+    /// [a][b - 1]: lines in loaded(a, b) that aren't in loaded(a, b - 1).
     joining: [[u16; MOST_BASIC]; MOST_BASIC],
 }
 
@@ -29,22 +31,22 @@ impl Method for ByLine {
             struck: false,
             below: u64::MAX,
             useful: 0,
-            touched: 0,
+            accessed: 0,
         };
         let mut lines = [empty; 512];
         let mut below = 1u64;
         for block in task.blocks() {
-            // Bits 0 to k - 1, and bit k.
-            let own = below.wrapping_add(1);
+            // Bits 0 to k - 1, and bit k - 1.
+            let own = below ^ below >> 1;
             for m in numbers(block) {
                 let line = &mut lines[task.lines.of(m)];
                 let since = below & !line.below;
                 line.useful |= select_unpredictable(line.held == m, since, 0);
-                line.touched |= own;
+                line.accessed |= own;
                 line.below = below;
                 line.held = m;
             }
-            below |= own;
+            below |= below << 1;
         }
         for block in task.interrupters() {
             for m in numbers(block) {
@@ -58,32 +60,30 @@ impl Method for ByLine {
         };
         for line in &lines {
             if line.struck && line.useful != 0 {
-                answer.words[answer.count] = (line.useful, line.useful & line.touched);
+                answer.words[answer.count] = (line.useful, line.accessed);
                 answer.count += 1;
             }
         }
         answer
     }
 
-    /// Between two blocks of its A a line is useful from the first on, for one run of edges: it
-    /// can only become useful again in a block that reads it, which is then in A.
+    /// From a block that reads it to the next that does a line is useful at all edges or at none, and
+    /// it joins the stretches from those edges in that next block.
     fn prepare(&mut self) {
         for &(useful, accessed) in &self.words[..self.count] {
-            let mut start = accessed.trailing_zeros() as usize;
-            let mut blocks = accessed & (accessed - 1);
-            while blocks != 0 {
-                let b = blocks.trailing_zeros() as usize;
-                let end = b.min(start + (useful >> start).trailing_ones() as usize);
-                self.joining[start][b] = self.joining[start][b].wrapping_add(1);
-                self.joining[end][b] = self.joining[end][b].wrapping_sub(1);
-                start = b;
-                blocks &= blocks - 1;
+            let mut edges = useful & accessed << 1;
+            while edges != 0 {
+                let a = edges.trailing_zeros() as usize;
+                let b = a + (accessed >> a).trailing_zeros() as usize;
+                self.joining[a][b] += 1;
+                edges &= edges - 1;
             }
         }
+        // Sums over the edges; of a row only blocks after its edge are looked at.
         let mut row = self.joining[0];
         for next in &mut self.joining[1..] {
             for (here, before) in next.iter_mut().zip(row) {
-                *here = here.wrapping_add(before);
+                *here += before;
             }
             row = *next;
         }
@@ -92,8 +92,7 @@ impl Method for ByLine {
     fn grow(&self, a: usize, n: usize, mut each: impl FnMut(usize, u64) -> bool) {
         let mut lines = 0;
         for b in a + 1..=n {
-            // U(64) is empty, so no line joins there.
-            lines += self.joining[a].get(b).copied().unwrap_or(0) as u64;
+            lines += self.joining[a][b - 1] as u64;
             if !each(b, lines) {
                 break;
             }
@@ -101,7 +100,7 @@ impl Method for ByLine {
     }
 
     fn lines(&self, a: usize, b: usize) -> u64 {
-        let blocks = (u64::MAX >> (63 - b.min(63))) & (u64::MAX << a << 1);
+        let blocks = (u64::MAX >> (64 - b)) & (u64::MAX << a);
         let words = &self.words[..self.count];
         words
             .iter()

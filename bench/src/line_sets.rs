@@ -8,7 +8,7 @@ type Words = [u64; 8];
 pub struct LineSets {
     /// U(a) and H in common, for a from 0 to N.
     at_risk: [Words; MOST_BASIC + 1],
-    /// A(k), for k from 1 to N.
+    /// T(k), for k from 1 to N.
     accessed: [Words; MOST_BASIC + 1],
 }
 
@@ -53,10 +53,9 @@ impl Method for LineSets {
             }
         }
         let mut useful = [0; 8];
-        for (risk, reads) in at_risk.iter_mut().zip(&mut accessed) {
+        for risk in &mut at_risk {
             for w in 0..8 {
                 useful[w] ^= risk[w];
-                reads[w] &= useful[w];
                 risk[w] = useful[w] & struck[w];
             }
         }

@@ -50,15 +50,19 @@ int main(int argc, char **argv) {
          "pricing a block with a wrong checksum");
     hold(memcmp(priced, before, sizeof priced) == 0, "a refusal changed the block");
 
+    /* count, lines and cost of the plans at Q 60 and at Q 40, as they follow each other in a plan block */
+    static const uint8_t numbers_60[] = {2, 0, 1, 0, 10, 0, 0, 0, 0, 0, 0, 0}, points_1_2[] = {1, 0, 2, 0, 0, 0};
+    static const uint8_t numbers_40[] = {3, 0, 2, 0, 20, 0, 0, 0, 0, 0, 0, 0}, points_1_2_3[] = {1, 0, 2, 0, 3, 0, 0, 0};
     hold(preempt_plan(file, len, planned, sizeof planned) == PREEMPT_OK, "planning the file");
+    hold(memcmp(planned + PREEMPT_PLAN_COUNT_AT, numbers_60, sizeof numbers_60) == 0, "not two points, one line and cost 10 at Q 60");
+    hold(memcmp(planned + PREEMPT_PLAN_POINTS_AT, points_1_2, sizeof points_1_2) == 0, "not the points 1, 2 at Q 60");
     hold(preempt_price(file, len, planned, sizeof planned, priced, sizeof priced) == PREEMPT_OK, "pricing the plan's points");
     hold(memcmp(planned, priced, sizeof planned) == 0, "the two blocks differ");
 
     /* at Q 40 the points 1, 2, 3 and 2, 3 cost the same, and the first of the two is planned whatever the block held */
-    static const uint8_t count_1_2_3[] = {3, 0}, points_1_2_3[] = {1, 0, 2, 0, 3, 0, 0, 0};
     set_limit(file, 40);
     hold(preempt_plan(file, len, planned, sizeof planned) == PREEMPT_OK, "planning the file at Q 40");
-    hold(memcmp(planned + PREEMPT_PLAN_COUNT_AT, count_1_2_3, sizeof count_1_2_3) == 0, "not three points at Q 40");
+    hold(memcmp(planned + PREEMPT_PLAN_COUNT_AT, numbers_40, sizeof numbers_40) == 0, "not three points, two lines and cost 20 at Q 40");
     hold(memcmp(planned + PREEMPT_PLAN_POINTS_AT, points_1_2_3, sizeof points_1_2_3) == 0, "not the points 1, 2, 3 at Q 40");
     hold(preempt_plan(file, len, before, sizeof before) == PREEMPT_OK, "planning the file at Q 40 once more");
     hold(memcmp(planned, before, sizeof planned) == 0, "two plans of one file differ");

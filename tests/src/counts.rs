@@ -2,7 +2,7 @@
 
 pub struct Counts(Vec<(String, u64)>);
 
-const SHAPES: [&str; 39] = [
+const SHAPES: [&str; 40] = [
     "2 above block 0",
     "5 in a basic block",
     "5 in an interrupter",
@@ -26,6 +26,7 @@ const SHAPES: [&str; 39] = [
     "plan with N > 12",
     "plan with N 64",
     "lines above 255 used",
+    "last read loaded",
     "length above 2^32",
     "priced above 2^32",
     "priced lines > 255",

@@ -149,8 +149,8 @@ pub fn run(driver: &mut Driver) -> Result<(), String> {
     f.next(0, 4, None, 0)?;
     f.set(&Call::Region(1, 3), &[0])?;
     f.set(&Call::Region(1, 2), &[])?;
-    f.set(&Call::Region(3, 4), &[])?;
-    f.planned(&[3], 0)?;
+    f.set(&Call::Region(3, 4), &[0])?;
+    f.planned(&[1, 2], 10)?;
     f.refused(&Call::Price(&plan_block(4, 0, 0, 0, &[1])), 8, 1)?;
     f.refused(&Call::Price(&plan_block(4, 0, 0, 0, &[2, 2])), 5, 97)?;
     f.refused(&Call::Useful(5), 7, 0)?;
@@ -179,12 +179,29 @@ pub fn run(driver: &mut Driver) -> Result<(), String> {
     }
     f.task("File Seven, Q 80", &seven(80));
     f.planned(&[], 0)?;
+    f.task("File Seven, Q 70", &seven(70));
+    f.planned(&[1], 10)?;
     f.task("File Seven, Q 40", &seven(40));
-    f.planned(&[1, 2, 3], 10)?;
+    f.planned(&[1, 2, 3], 20)?;
     f.task("File Seven, Q 30", &seven(30));
-    f.planned(&[1, 2, 3], 10)?;
+    f.planned(&[1, 2, 3], 20)?;
     f.task("File Seven, Q 29", &seven(29));
     f.refused(&Call::Plan, 6, 0)?;
+
+    // The table that block 1 reads is read once more, in block 3.
+    let mut task = seven(40);
+    task.blocks = vec![reads(20, &[0]), reads(20, &[2]), reads(20, &[0])];
+    f.task("a last read, Q 40", &task);
+    f.set(&Call::Region(0, 3), &[])?;
+    f.set(&Call::Region(1, 2), &[])?;
+    f.set(&Call::Region(1, 3), &[0])?;
+    f.set(&Call::Region(2, 3), &[0])?;
+    f.planned(&[1, 2], 10)?;
+    task.interrupters = vec![reads(0, &[2])];
+    f.task("a last read that nobody strikes, Q 40", &task);
+    f.set(&Call::Region(2, 3), &[])?;
+    f.planned(&[1], 0)?;
+
     f.task("one basic block, Q 60", &one_block(60, 60));
     f.planned(&[], 0)?;
     f.task("one basic block, Q 59", &one_block(60, 59));

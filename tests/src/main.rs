@@ -302,6 +302,7 @@ fn run_case(
                 model.loaded(a, b)[256..].contains(&true),
                 "lines above 255 used",
             );
+            counts.add_if(model.loads_for_the_last_time(a, b), "last read loaded");
         }
     }
     Ok(())

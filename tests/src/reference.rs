@@ -302,7 +302,8 @@ pub struct Model {
     pub task: Task,
     pub n: usize,
     pub useful: Vec<Set>,
-    accessed: Vec<Set>,
+    /// T(k), with an empty T(0) before.
+    touched: Vec<Set>,
     struck: Set,
     sizes: Vec<Vec<u64>>,
     lengths: Vec<Vec<u64>>,
@@ -314,7 +315,7 @@ impl Model {
         let mut model = Model {
             n,
             useful: Vec::new(),
-            accessed: Vec::new(),
+            touched: vec![empty_set()],
             struck: struck_lines(&task),
             sizes: vec![vec![0; n + 1]; n + 1],
             lengths: vec![vec![0; n + 1]; n + 1],
@@ -323,11 +324,8 @@ impl Model {
         for k in 0..=n {
             model.useful.push(useful_lines(&model.task, k));
         }
-        model.accessed.push(empty_set());
         for k in 1..=n {
-            model
-                .accessed
-                .push(common(&model.useful[k], &touched_lines(&model.task, k)));
+            model.touched.push(touched_lines(&model.task, k));
         }
         for a in 0..n {
             for b in a + 1..=n {
@@ -342,13 +340,20 @@ impl Model {
         model
     }
 
-    /// Equation 8.
+    /// The lines useful at a that may be struck and that the stretch reads, for the last time or not.
     pub fn loaded(&self, a: usize, b: usize) -> Set {
-        let mut accessed = empty_set();
+        let mut touched = empty_set();
         for k in a + 1..=b {
-            add_all(&mut accessed, &self.accessed[k]);
+            add_all(&mut touched, &self.touched[k]);
         }
-        common(&common(&self.useful[a], &accessed), &self.struck)
+        common(&common(&self.useful[a], &touched), &self.struck)
+    }
+
+    /// Whether a line of loaded(a, b) is useful after none of the stretch's blocks that read it.
+    pub fn loads_for_the_last_time(&self, a: usize, b: usize) -> bool {
+        let loaded = self.loaded(a, b);
+        (0..LINES)
+            .any(|c| loaded[c] && (a + 1..=b).all(|k| !(self.touched[k][c] && self.useful[k][c])))
     }
 
     pub fn length(&self, a: usize, b: usize) -> u64 {

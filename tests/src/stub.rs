@@ -6,7 +6,7 @@ use crate::reference::{Call, Reference};
 use std::process::{Command, ExitCode};
 use std::sync::{Mutex, OnceLock};
 
-pub const BUGS: [&str; 105] = [
+pub const BUGS: [&str; 106] = [
     "line numbers in eight bits",
     "line numbers in nine bits with S 512 as 511",
     "number 0 as empty",
@@ -15,12 +15,13 @@ pub const BUGS: [&str; 105] = [
     "useful without comparing the number",
     "useful if read again at any later time",
     "useful if the last number read is the same",
-    "accessed with the block before",
-    "accessed is touched",
     "interrupters forgotten",
     "only the first interrupter",
     "stretch begins with block a",
+    "stretch without block a+1",
     "stretch without block b",
+    "lines read for the last time left out",
+    "lines that aren't useful loaded too",
     "one reload price per point",
     "a line counted once for the task",
     "Q without reloads",
@@ -460,7 +461,7 @@ fn ones(a: &Words) -> u64 {
 
 struct Sets {
     useful: Vec<Words>,
-    accessed: Vec<Words>,
+    touched: Vec<Words>,
     struck: Words,
 }
 
@@ -522,13 +523,9 @@ fn sets(t: &Task) -> Sets {
             }
         }
     }
-    let accessed = (0..=t.n)
-        .map(|k| match bug() {
-            "accessed is touched" => touched[k],
-            "accessed with the block before" => both(&useful[k.saturating_sub(1)], &touched[k]),
-            _ => both(&useful[k], &touched[k]),
-        })
-        .collect();
+    if has("lines read for the last time left out") {
+        touched = (0..=t.n).map(|k| both(&useful[k], &touched[k])).collect();
+    }
     let mut struck = [0; 8];
     let count = if has("only the first interrupter") {
         t.strikes.len().min(1)
@@ -543,7 +540,7 @@ fn sets(t: &Task) -> Sets {
     }
     Sets {
         useful,
-        accessed,
+        touched,
         struck,
     }
 }
@@ -552,17 +549,20 @@ fn loaded(sets: &Sets, a: usize, b: usize) -> Words {
     if has("one reload price per point") {
         return both(&sets.useful[a], &sets.struck);
     }
-    let from = if has("stretch begins with block a") {
-        a
-    } else {
-        a + 1
+    let from = match bug() {
+        "stretch begins with block a" => a,
+        "stretch without block a+1" => a + 2,
+        _ => a + 1,
     };
     let to = if has("stretch without block b") {
         b
     } else {
         b + 1
     };
-    let union = (from..to).fold([0; 8], |u, k| either(&u, &sets.accessed[k]));
+    let union = (from..to).fold([0; 8], |u, k| either(&u, &sets.touched[k]));
+    if has("lines that aren't useful loaded too") {
+        return both(&union, &sets.struck);
+    }
     both(&both(&sets.useful[a], &union), &sets.struck)
 }
 

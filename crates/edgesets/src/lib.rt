@@ -66,15 +66,3 @@ pub fn settle(sets: &mut [u64; 1048])
         sets[i] = sets[i] ^ sets[i - 8];
     }
 }
-
-// Keeps of set 65 + k the lines of set k, for k up to 64.
-pub fn keep_common(sets: &mut [u64; 1048])
-    requires { ⌜ length (now sets) ≡ 1048 ⌝ }
-    ensures { λ _. ⌜ length (now (sets .exit)) ≡ 1048 ⌝ }
-    ensures { λ _. ⌜ ((k d : ℕ) → k < 65 → linesAt (now (sets .exit)) k d ≡ linesAt (now (sets .entry)) k d) ⌝ }
-    ensures { λ _. ⌜ ((k d : ℕ) → k < 65 → linesAt (now (sets .exit)) (65 + k) d ≡ (linesAt (now (sets .entry)) (65 + k) d && linesAt (now (sets .entry)) k d)) ⌝ }
-{
-    for i in 0..520 {
-        sets[520 + i] = sets[520 + i] & sets[i];
-    }
-}

@@ -12,11 +12,11 @@ use lib.Dec.{eqb, ltb, leb}
 use borrow.Author.Tests.{eqb-true, le-leb, ltb-true, not-true}
 use Rattle.model.specs.Sets.{Lines, countBelow}
 use Rattle.model.specs.Task.{Task, blockCount}
-use Rattle.model.specs.Lines.{lineOf, onLine, lastRead, firstRead, anyRead, readsOf, preempterReads, blockAt, stateAfter, nextRead, lookedAt, readsLookedAt, asNext, useful, accessed, accessedUseful, evicted}
+use Rattle.model.specs.Lines.{lineOf, onLine, lastRead, firstRead, anyRead, readsOf, preempterReads, blockAt, stateAfter, nextRead, lookedAt, readsLookedAt, asNext, useful, accessed, evicted}
 use Rattle.model.specs.Lists.{steps, regions, every, total, lowest, wellFormed, before, among, sameList, risingLists, allLists}
 use Rattle.model.specs.Regions.{unionAfter, timeAfter, loaded, regionLines, regionLength, regionFits, regionCost, lines, cost, fits, FirstBest, NoPlacementFits}
 use Rattle.model.specs.Answers.{accepted, pricing, number, place}
-use Rattle.model.specs.Cases.{Case, usefulAre, accessedUsefulAre, nextIs, evictedAre, loadedAre, lengthIs, bestAre, firstIs, fittingAre, noneFits, priced, refused, lineIs, listed, RefusedBy, CaseHolds, cases}
+use Rattle.model.specs.Cases.{Case, usefulAre, nextIs, evictedAre, loadedAre, lengthIs, bestAre, firstIs, fittingAre, noneFits, priced, refused, lineIs, listed, RefusedBy, CaseHolds, cases}
 use Rattle.model.specs.Planning.{chosen, Planned}
 use Rattle.model.specs.Laws.{CasesHold}
 use Rattle.model.specs.declared.Next.{Next}
@@ -67,7 +67,6 @@ sameNext Never Never = true
 
 test : Case → Bool
 test (usefulAre t k ds) = agreeBelow 512 (useful t k) (listed ds)
-test (accessedUsefulAre t k ds) = agreeBelow 512 (accessedUseful t k) (listed ds)
 test (nextIs t c k n l) = sameNext (asNext (nextRead t k c)) n && eqb (readsLookedAt t k c) l
 test (evictedAre t ds) = agreeBelow 512 (evicted t) (listed ds)
 test (loadedAre t a b ds) = agreeBelow 512 (loaded t a b) (listed ds)
@@ -208,7 +207,6 @@ same-next Never Never h = refl
 sound : (c : Case) → test c ≡ true → CaseHolds c
 unfolding test onLine
 sound (usefulAre t k ds) h = agree 512 (useful t k) (listed ds) h
-sound (accessedUsefulAre t k ds) h = agree 512 (accessedUseful t k) (listed ds) h
 sound (nextIs t c k n l) h =
     let both = and-split (sameNext (asNext (nextRead t k c)) n) (eqb (readsLookedAt t k c) l) h in
     (same-next (asNext (nextRead t k c)) n (both .0), eqb-true (readsLookedAt t k c) l (both .1))
@@ -236,7 +234,7 @@ sound (refused t ps n i) h = is-refused n i (pricing t ps) h
 sound (lineIs t m c) h = λ d. ap (λ (x : ℕ). eqb d x) (eqb-true (lineOf t m) c h)
 
 all-pass : everyCase cases ≡ true
-unfolding everyCase test agreeBelow everyList onAll exactly some ahead sameNext refusedBy listed useful stateAfter nextRead lastRead firstRead lookedAt readsLookedAt readsOf lineOf onLine accessed anyRead blockAt accessedUseful evicted preempterReads loaded unionAfter regionLines countBelow regionLength timeAfter regionFits regionCost every total lowest regions steps before among sameList risingLists
+unfolding everyCase test agreeBelow everyList onAll exactly some ahead sameNext refusedBy listed useful stateAfter nextRead lastRead firstRead lookedAt readsLookedAt readsOf lineOf onLine accessed anyRead blockAt evicted preempterReads loaded unionAfter regionLines countBelow regionLength timeAfter regionFits regionCost every total lowest regions steps before among sameList risingLists
 all-pass = refl
 
 held : (cs : List Case) → everyCase cs ≡ true → (c : Case) → List·Memᴰ c cs → CaseHolds c

@@ -11,7 +11,7 @@ use lib.ListN.{length}
 use Rattle.model.specs.Sets.{Lines}
 use Rattle.model.specs.Task.{Task, blockCount}
 use Rattle.model.specs.Lists.{Region, steps, regions, total, rightPoint, wellFormed, wrongPoint}
-use Rattle.model.specs.Lines.{useful, accessedUseful, evicted}
+use Rattle.model.specs.Lines.{useful, evicted}
 use Rattle.model.specs.Regions.{unionAfter, timeAfter, loaded, regionLines, regionLength, regionFits, regionCost}
 use Rattle.model.specs.Regions.{lines, fits, regionAbove}
 use Rattle.model.specs.Answers.{refusedAt, pricing}
@@ -78,8 +78,8 @@ module _ (t : Task) (a b c : ℕ) (h : b ≤ c) where
   loaded-grows : (d : ℕ) → loaded t a b d ≡ true → loaded t a c d ≡ true
   unfolding loaded
   loaded-grows d e =
-      let both = and-split (useful t a d && evicted t d) (unionAfter (accessedUseful t) a (b - a) d) e in
-      rw (both .0, more, union-grows (accessedUseful t) a (b - a) (c - a - (b - a)) d (both .1))
+      let both = and-split (useful t a d && evicted t d) _ e in
+      rw (both .0, more, union-grows _ a (b - a) (c - a - (b - a)) d (both .1))
 
   length-grows : regionLength t a b ≤ regionLength t a c
   unfolding regionLength regionLines

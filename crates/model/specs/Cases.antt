@@ -1,5 +1,5 @@
--- Document 01's cases marked P, two more of its rules on small tasks, document 02's first item, and document 004's appendix A. A case is a claim on a task; a claim about lists is one about every list.
--- Assumes nothing.
+-- Document 01's cases marked P as document 02 has changed them, two more of its rules on small tasks, document 02's first three items, and
+-- document 004's appendix A. A case is a claim on a task; a claim about lists is one about every list. Assumes nothing.
 use Prim.Native.Nat.{ℕ, _<_}
 use mathlib.Core.Path.{_≡_}
 use mathlib.Core.Bool.{true, false, _&&_, _||_}
@@ -7,7 +7,7 @@ use mathlib.Core.List.{List, [], _∷_}
 use lib.Dec.{eqb}
 use Rattle.model.specs.Sets.{Lines}
 use Rattle.model.specs.Task.{Block, Preempter, Task, blockCount}
-use Rattle.model.specs.Lines.{onLine, nextRead, readsLookedAt, asNext, useful, accessedUseful, evicted}
+use Rattle.model.specs.Lines.{onLine, nextRead, readsLookedAt, asNext, useful, evicted}
 use Rattle.model.specs.Lists.{wellFormed, among}
 use Rattle.model.specs.Regions.{loaded, regionLength, lines, cost, fits, BestList, FirstBest, NoPlacementFits}
 use Rattle.model.specs.Answers.{pricing, number, place}
@@ -21,7 +21,6 @@ use Rattle.model.specs.declared.Verdict.the-variants.{Accepted, Refused}
 
 pub data Case : Type 0 where
   usefulAre : Task → ℕ → List ℕ → Case  -- U(k) is these lines
-  accessedUsefulAre : Task → ℕ → List ℕ → Case  -- A(k) is these lines
   nextIs : Task → ℕ → ℕ → Next → ℕ → Case  -- the next read of line c after block k, and how many reads are looked at
   evictedAre : Task → List ℕ → Case  -- H is these lines
   loadedAre : Task → ℕ → ℕ → List ℕ → Case  -- loaded(a, b) is these lines
@@ -48,7 +47,6 @@ RefusedBy n i v = (r : Refusal) × (v ≡ Refused r) × (number r ≡ n) × (pla
 
 abbrev pub CaseHolds : Case → Type 0
 CaseHolds (usefulAre t k ds) = Are (useful t k) ds
-CaseHolds (accessedUsefulAre t k ds) = Are (accessedUseful t k) ds
 CaseHolds (nextIs t c k n l) = (asNext (nextRead t k c) ≡ n) × (readsLookedAt t k c ≡ l)
 CaseHolds (evictedAre t ds) = Are (evicted t) ds
 CaseHolds (loadedAre t a b ds) = Are (loaded t a b) ds
@@ -83,6 +81,18 @@ fileSeven s q =
 -- one basic block of 60 ticks
 abbrev pub oneBlock : ℕ → Task
 oneBlock q = record { id = 7; lineCount = 4; limit = q; reload = 10; blocks = block 60 [] ∷ []; preempters = [] }
+
+-- a number that is read for the last time after the only point, on a line that the preempter evicts
+abbrev pub readTwice : Task
+readTwice =
+    record {
+      id = 7;
+      lineCount = 4;
+      limit = 60;
+      reload = 10;
+      blocks = block 20 (0 ∷ []) ∷ block 20 (0 ∷ []) ∷ [];
+      preempters = preempter (4 ∷ []) ∷ [];
+    }
 
 -- four basic blocks that read one number, whose line the preempter evicts
 abbrev pub sameRead : Task
@@ -120,18 +130,17 @@ cases =
     -- document 02, item 2: the next read of lines 0 and 1 after block 1, of line 2 after block 2, of line 3, and of line 4, which the cache has not
     nextIs (fileSeven 4 60) 0 1 (Read 0) 2 ∷ nextIs (fileSeven 4 60) 1 1 (Read 5) 3 ∷ nextIs (fileSeven 4 60) 2 2 Never 3 ∷
     nextIs (fileSeven 4 60) 3 0 Never 6 ∷ nextIs (fileSeven 4 60) 4 0 Never 6 ∷
-    -- loaded(1, 3) is {0}; loaded(1, 2) and loaded(3, 4) are empty
-    loadedAre (fileSeven 4 60) 1 3 (0 ∷ []) ∷ loadedAre (fileSeven 4 60) 1 2 [] ∷ loadedAre (fileSeven 4 60) 3 4 [] ∷
-    -- Q 60: least cost 0, only with point 3
-    bestAre (fileSeven 4 60) 0 ((3 ∷ []) ∷ []) ∷
-    -- Q 40: least cost 10; 1, 2, 3 and 2, 3 reach it
-    bestAre (fileSeven 4 40) 10 ((1 ∷ 2 ∷ 3 ∷ []) ∷ (2 ∷ 3 ∷ []) ∷ []) ∷
-    -- 1, 2, 3 is the first of the two, by its first point
-    firstIs (fileSeven 4 40) (1 ∷ 2 ∷ 3 ∷ []) ∷
-    -- Q 80: no point and point 3 cost nothing, and the empty list is before all
-    firstIs (fileSeven 4 80) [] ∷
-    -- Q 30: only 1, 2, 3 fits; cost 10, lines 1
-    fittingAre (fileSeven 4 30) ((1 ∷ 2 ∷ 3 ∷ []) ∷ []) ∷ priced (fileSeven 4 30) (1 ∷ 2 ∷ 3 ∷ []) 1 10 ∷
+    -- loaded(1, 3) and, by document 02, item 3, loaded(3, 4) are {0}; loaded(1, 2) is empty
+    loadedAre (fileSeven 4 60) 1 3 (0 ∷ []) ∷ loadedAre (fileSeven 4 60) 1 2 [] ∷ loadedAre (fileSeven 4 60) 3 4 (0 ∷ []) ∷
+    -- Q 60: least cost 10; 1, 2 and 2 and 3 reach it, 1, 2 is the first of them, with lines 1
+    bestAre (fileSeven 4 60) 10 ((1 ∷ 2 ∷ []) ∷ (2 ∷ []) ∷ (3 ∷ []) ∷ []) ∷ firstIs (fileSeven 4 60) (1 ∷ 2 ∷ []) ∷
+    priced (fileSeven 4 60) (1 ∷ 2 ∷ []) 1 10 ∷
+    -- Q 40: least cost 20; 1, 2, 3 and 2, 3 reach it, 1, 2, 3 is the first of the two, by its first point
+    bestAre (fileSeven 4 40) 20 ((1 ∷ 2 ∷ 3 ∷ []) ∷ (2 ∷ 3 ∷ []) ∷ []) ∷ firstIs (fileSeven 4 40) (1 ∷ 2 ∷ 3 ∷ []) ∷
+    -- Q 70: 1 and 1, 2 and 2 and 3 cost 10, and 1 is the first, since it begins 1, 2
+    bestAre (fileSeven 4 70) 10 ((1 ∷ []) ∷ (1 ∷ 2 ∷ []) ∷ (2 ∷ []) ∷ (3 ∷ []) ∷ []) ∷ firstIs (fileSeven 4 70) (1 ∷ []) ∷
+    -- Q 30: only 1, 2, 3 fits; cost 20, lines 2
+    fittingAre (fileSeven 4 30) ((1 ∷ 2 ∷ 3 ∷ []) ∷ []) ∷ priced (fileSeven 4 30) (1 ∷ 2 ∷ 3 ∷ []) 2 20 ∷
     -- Q 29: refusal 6, though every time is 20
     noneFits (fileSeven 4 29) 6 0 ∷
     -- Q 60, list 1: refusal 8, region 1, whose length is 70
@@ -145,12 +154,11 @@ cases =
     -- File Seven's H is {0, 1}
     evictedAre (fileSeven 4 60) (0 ∷ 1 ∷ []) ∷
     -- a line that two regions reload counts twice
-    loadedAre sameRead 1 2 (0 ∷ []) ∷ loadedAre sameRead 2 3 (0 ∷ []) ∷ priced sameRead (1 ∷ 2 ∷ 3 ∷ []) 2 20 ∷
+    loadedAre sameRead 1 2 (0 ∷ []) ∷ loadedAre sameRead 2 4 (0 ∷ []) ∷ priced sameRead (1 ∷ 2 ∷ []) 2 20 ∷
+    -- document 02, item 3: interrupted just before its last read, a line is fetched again
+    loadedAre readTwice 1 2 (0 ∷ []) ∷ lengthIs readTwice 1 2 30 ∷ priced readTwice (1 ∷ []) 1 10 ∷
     -- 004, figure 9: the useful lines of task 1
     usefulAre appendixA 1 (1 ∷ 2 ∷ []) ∷ usefulAre appendixA 2 (1 ∷ 2 ∷ 4 ∷ 8 ∷ []) ∷ usefulAre appendixA 3 (1 ∷ 2 ∷ 8 ∷ []) ∷
     usefulAre appendixA 4 (1 ∷ 2 ∷ 7 ∷ 8 ∷ []) ∷ usefulAre appendixA 5 (1 ∷ 2 ∷ 7 ∷ 8 ∷ []) ∷
-    -- 004, figure 10: the accessed useful lines of task 1
-    accessedUsefulAre appendixA 1 (1 ∷ 2 ∷ []) ∷ accessedUsefulAre appendixA 2 (4 ∷ 8 ∷ []) ∷ accessedUsefulAre appendixA 3 (8 ∷ []) ∷
-    accessedUsefulAre appendixA 4 (1 ∷ 2 ∷ 7 ∷ 8 ∷ []) ∷ accessedUsefulAre appendixA 5 (1 ∷ 2 ∷ 7 ∷ 8 ∷ []) ∷
     -- 004, appendix A: the loaded lines of regions (2, 4) and (4, 5)
     loadedAre appendixA 2 4 (1 ∷ 8 ∷ []) ∷ loadedAre appendixA 4 5 (1 ∷ 7 ∷ 8 ∷ []) ∷ []

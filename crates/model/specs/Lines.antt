@@ -1,7 +1,7 @@
 -- The lines of a task (document 01, "Lines"; 003's reaching and live states on a straight line; 004, equation 7).
 -- Assumes nothing.
 use Prim.Native.Nat.{ℕ, zero, suc, _%_}
-use mathlib.Core.Bool.{Bool, false, cond, _&&_, _||_}
+use mathlib.Core.Bool.{Bool, false, cond, _||_}
 use mathlib.Core.List.{List, [], _∷_, _++_}
 use lib.Dec.{eqb}
 use lib.ListN.{getD, take, drop}
@@ -86,10 +86,6 @@ useful t k c = sameBlock (stateAfter t k c) (nextRead t k c)
 unfoldable pub accessed : Task → ℕ → Lines
 accessed t zero c = false
 accessed t (suc i) c = anyRead (onLine t c) (blockAt t i .reads)
-
--- A(k), the accessed useful lines: U(k) and T(k) in common
-unfoldable pub accessedUseful : Task → ℕ → Lines
-accessedUseful t k c = useful t k c && accessed t k c
 
 -- H, the lines that the preempters evict
 unfoldable pub evicted : Task → Lines

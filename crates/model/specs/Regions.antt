@@ -1,11 +1,11 @@
--- Regions of a task (document 01, "Stretches and price"; 004, equation 8). Assumes nothing.
+-- Regions of a task (document 01, "Stretches and price"; document 02, item 3). Assumes nothing.
 use Prim.Native.Nat.{ℕ, zero, suc, _+_, _-_, _*_}
 use mathlib.Core.Bool.{Bool, false, _&&_, _||_}
 use mathlib.Core.List.{List}
 use lib.Dec.{leb}
 use Rattle.model.specs.Sets.{Lines, size}
 use Rattle.model.specs.Task.{Task, blockCount}
-use Rattle.model.specs.Lines.{useful, accessedUseful, evicted, blockAt}
+use Rattle.model.specs.Lines.{useful, accessed, evicted, blockAt}
 use Rattle.model.specs.Lists.{regions, total, lowest, listFits, listCost, LeastCost, FirstOfLeast, NoneFits}
 use Rattle.model.specs.declared.Place.{Place}
 
@@ -19,9 +19,10 @@ unfoldable pub timeAfter : Task → ℕ → ℕ → ℕ
 timeAfter t a zero = 0
 timeAfter t a (suc n) = timeAfter t a n + blockAt t (a + n) .time
 
--- loaded(a, b), equation 8: useful at a, evicted, and accessed while useful in the region
+-- loaded(a, b): useful at a, evicted, and accessed in the region. Document 02 changed 004's equation 8, which asks that a line is still useful
+-- after the block that reads it: a line that is read for the last time is fetched again too
 unfoldable pub loaded : Task → ℕ → ℕ → Lines
-loaded t a b c = useful t a c && evicted t c && unionAfter (accessedUseful t) a (b - a) c
+loaded t a b c = useful t a c && evicted t c && unionAfter (accessed t) a (b - a) c
 
 -- the lines that a region reloads
 unfoldable pub regionLines : Task → ℕ → ℕ → ℕ

@@ -5,19 +5,19 @@ use mathlib.Core.Bool.{true, _&&_}
 use mathlib.Core.List.{List}
 use lib.ListN.{length, getD}
 use Rattle.model.specs.Task.{Task, blockCount}
-use Rattle.model.specs.Lines.{useful, accessedUseful, evicted}
+use Rattle.model.specs.Lines.{useful, accessed, evicted}
 use Rattle.model.specs.Regions.{unionAfter, timeAfter, loaded, regionLines, regionLength, regionFits, regionCost}
 use Rattle.lineset.specs.Members.{members}
 use Rattle.placement.specs.Table.{none, entry, slot}
 use Rattle.regions.specs.declared.Run.{Run}
 use Rattle.regions.specs.declared.MeasuredRegion.{MeasuredRegion}
 
--- a run of basic blocks: the lines that are useful at its start and evicted, the union of its accessed useful lines, and the sum of its times
+-- a run of basic blocks: the lines that are useful at its start and evicted, the union of the lines that its blocks read, and the sum of its times
 pub record Spans (t : Task) (run : Run) : Type 0 where
   pub rising : run .from ≤ run .to
   pub within : run .to ≤ blockCount t
   pub lost : (c : ℕ) → members (run .lost) c ≡ (useful t (run .from) c && evicted t c)
-  pub lines : (c : ℕ) → members (run .lines) c ≡ unionAfter (accessedUseful t) (run .from) (run .to - run .from) c
+  pub lines : (c : ℕ) → members (run .lines) c ≡ unionAfter (accessed t) (run .from) (run .to - run .from) c
   pub time : run .time ≡ timeAfter t (run .from) (run .to - run .from)
   pub small : run .time ≤ (run .to - run .from) * 4294967295
 

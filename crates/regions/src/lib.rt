@@ -20,8 +20,8 @@ pub struct MeasuredRegion {
     pub fits: bool,
 }
 
-// The basic blocks after edge `from` up to edge `to`: the lines that a preemption at `from` loses, the accessed useful lines of the blocks, and
-// the sum of their times.
+// The basic blocks after edge `from` up to edge `to`: the lines that a preemption at `from` loses, the lines that the blocks read, and the sum of
+// their times.
 struct Run {
     from: usize,
     to: usize,
@@ -109,7 +109,7 @@ fn longer(file: &[u8], sets: &[u64; 1048], run: Run) -> Run
     let next = to + 1;
     let lost = run.lost;
     let lines = run.lines
-        .union(edgesets::lines_at(sets, reuse::ACCESSED_USEFUL + next));
+        .union(edgesets::lines_at(sets, reuse::ACCESSED + next));
     let before = run.time;
     let time = before + taskfile::time(file, to) as u64;
     Run {

@@ -1,5 +1,5 @@
-// For an accepted file: the next read of a line, the lines that are useful at each edge, those of them that each block reads, and those that
-// the preempters evict.
+// For an accepted file: the next read of a line, the lines that are useful at each edge, those that each block reads, and those that the
+// preempters evict.
 ghost use mathlib.Core.Bool.{false, _&&_, _||_, xor};
 ghost use mathlib.Core.Path.{_≡_};
 ghost use Prim.Native.Nat.{ℕ, _+_, _<_, _≤_};
@@ -19,8 +19,8 @@ use model::Line;
 use model::Next;
 use model::Verdict;
 
-// Set k of the array is U(k), set ACCESSED_USEFUL + k is A(k), and set EVICTED is H.
-pub const ACCESSED_USEFUL: usize = 65;
+// Set k of the array is U(k), set ACCESSED + k is T(k), and set EVICTED is H.
+pub const ACCESSED: usize = 65;
 
 pub const EVICTED: usize = 130;
 
@@ -37,7 +37,6 @@ pub fn find_lines(file: &[u8], sets: &mut [u64; 1048])
 {
     walk_reads(file, sets);
     edgesets::settle(sets);
-    edgesets::keep_common(sets);
     edgesets::put(sets, EVICTED, evicted_lines(file));
 }
 
@@ -221,7 +220,7 @@ fn with_marked(lines: LineSet, c: usize, marked: bool) -> LineSet
     if marked { lines.with(c) } else { lines }
 }
 
-// U(k) as toggles, and T(k) in the place of A(k), in one walk over the reads: what each line holds, and the block that read it last.
+// U(k) as toggles, and T(k), in one walk over the reads: what each line holds, and the block that read it last.
 fn walk_reads(file: &[u8], sets: &mut [u64; 1048])
     requires { ⌜ (verdict (now file) ≡ Verdict.Accepted) × (now sets ≡ replicate 1048 0) ⌝ }
     ensures { λ _. ⌜ Collected (now (file .entry)) (now (sets .exit)) ⌝ }
@@ -240,7 +239,7 @@ fn walk_reads(file: &[u8], sets: &mut [u64; 1048])
             let c = cache.line_of(number);
             let line = held[c];
             add_reread(sets, line, number, c, since[c], k);
-            edgesets::add_line(sets, c, ACCESSED_USEFUL + k);
+            edgesets::add_line(sets, c, ACCESSED + k);
             held[c] = Line::Held(number);
             since[c] = k;
             j += 1;

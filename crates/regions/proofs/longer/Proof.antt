@@ -5,7 +5,7 @@ use mathlib.Core.Path.{refl, sym, ap₂, _∙_}
 use mathlib.Core.Bool.{_||_}
 use native.Mathlib.Omega.{arith}
 use borrow.Author.Needs.{needs}
-use Rattle.model.specs.Lines.{accessedUseful}
+use Rattle.model.specs.Lines.{accessed}
 use Rattle.taskfile.specs.File.{taskOf}
 use Rattle.taskfile.proofs.Accepted.{few-blocks}
 use Rattle.regions.proofs.Runs.{union-more, time-more}
@@ -50,8 +50,8 @@ returns c =
         lines =
             λ d.
             c .before .union .ensures d ∙
-            ap₂ _||_ (spans .lines d) (c .before .before .lines-at .ensures d ∙ ready .accessedUseful (run .to + 1) d (omega arith)) ∙
-            sym (union-more (run .from) (run .to) (spans .rising) (accessedUseful t) d);
+            ap₂ _||_ (spans .lines d) (c .before .before .lines-at .ensures d ∙ ready .accessed (run .to + 1) d (omega arith)) ∙
+            sym (union-more (run .from) (run .to) (spans .rising) (accessed t) d);
         time = ap₂ _+_ (spans .time) (c .time .ensures) ∙ sym (time-more (run .from) (run .to) (spans .rising) t);
         small = omega arith;
       },

@@ -22,7 +22,7 @@ use Rattle.model.specs.declared.Refusal.{Refusal}
 use Rattle.model.specs.declared.Refusal.the-variants.{Argument, AboveLimit}
 use Rattle.model.specs.declared.Verdict.the-variants.{Accepted, Refused}
 use Rattle.prices.specs.Prices.{Prices}
-use Rattle.prices.proofs.Points.{wrongFrom, point-rising, points-end}
+use Rattle.pointlist.proofs.Points.{wrongFrom, point-rising, points-end}
 
 -- the regions of a list from region i on, which starts at edge a
 pub regionsFrom : ℕ → List ℕ → ℕ → ℕ → List Region

@@ -17,23 +17,6 @@ pub struct Price {
     pub cost: u64,
 }
 
-// The lowest index at which a list of points of a task of n blocks is wrong.
-fn wrong_point(points: &[u16], n: usize) -> Place
-    ensures { λ r. ⌜ r ≡ wrongPoint n (now (points .entry)) ⌝ }
-{
-    let mut last = 0;
-    let mut i = 0;
-    while i < points.len() {
-        let point = points[i] as usize;
-        if point <= last || n <= point {
-            return Place::At(i);
-        }
-        last = point;
-        i += 1;
-    }
-    Place::Nowhere
-}
-
 // The price of a list of points: 7 at its lowest wrong point, then 8 at its lowest region above the limit.
 pub fn price_of(file: &[u8], points: &[u16]) -> Price
     requires { ⌜ verdict (now file) ≡ Verdict.Accepted ⌝ }
@@ -49,7 +32,7 @@ pub fn price_list(file: &[u8], sets: &[u64; 1048], points: &[u16]) -> Price
     requires { ⌜ Ready (now file) (now sets) ⌝ }
     ensures { λ r. ⌜ Prices (taskOf (now (file .entry))) (now (points .entry)) r ⌝ }
 {
-    match wrong_point(points, taskfile::block_count(file)) {
+    match pointlist::wrong_point(points, taskfile::block_count(file)) {
         Place::At(i) => no_price(Refusal::Argument(i)),
         Place::Nowhere => price_regions(file, sets, points),
     }

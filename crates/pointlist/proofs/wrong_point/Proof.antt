@@ -1,4 +1,4 @@
--- `prices::wrong_point` meets its contract. The loop's invariant: the lowest wrong point is that of the points left, after the last one passed.
+-- `pointlist::wrong_point` meets its contract. The loop's invariant: the lowest wrong point is that of the points left, after the last one passed.
 -- Assumes nothing.
 use Prim.Native.Nat.{_-_, _≤_}
 use mathlib.Core.Path.{_≡_, refl, sym, _∙_}
@@ -7,9 +7,9 @@ use native.Mathlib.Omega.{arith}
 use borrow.Author.Tests.{leb-true, leb-false}
 use lib.ListN.{length}
 use Rattle.model.specs.Lists.{wrongPoint}
-use Rattle.prices.proofs.Points.{wrongFrom, point-wrong, point-right, points-end}
-use Rattle.prices.proofs.wrong_point.Statement.{statement}
-use Rattle.prices.proofs.wrong_point.Tie as tie
+use Rattle.pointlist.proofs.Points.{wrongFrom, point-wrong, point-right, points-end}
+use Rattle.pointlist.proofs.wrong_point.Statement.{statement}
+use Rattle.pointlist.proofs.wrong_point.Tie as tie
 
 abbrev Inv-loop : tie.InvT-loop
 Inv-loop points n last₀ i₀ last i = (i ≤ length points) × (wrongPoint n points ≡ wrongFrom n points i last)

@@ -86,6 +86,35 @@ pub fn arguments(numbers: &mut [u64]) -> bool {
     os::arg_count() == i + 1
 }
 
+// How many points the arguments give.
+fn point_count() -> usize {
+    let count = os::arg_count();
+    if count == 0 { 0 } else { count - 1 }
+}
+
+// Puts the points that the arguments give into a list, and answers how many it has; nothing where an argument is no number of two bytes. A
+// well-formed list has at most 63 points, so the first 64 decide at which of them a longer list is refused.
+pub fn read_points(points: &mut [u16; 64]) -> Decimal
+    ensures { λ r. ⌜ AtMost 64 r ⌝ }
+{
+    let count = point_count();
+    let mut i = 0;
+    while i < count {
+        let Decimal::Number(point) = argument(i + 1, 65535) else {
+            return Decimal::Nothing;
+        };
+        if i < 64 {
+            points[i] = point as u16;
+        }
+        i += 1;
+    }
+    if count < 64 {
+        Decimal::Number(count as u64)
+    } else {
+        Decimal::Number(64)
+    }
+}
+
 // The first points of a list; all where it has no more.
 pub fn first(points: &[u16], count: usize) -> &[u16]
     ensures { λ r. ⌜ now r ≡ take count (now (points .entry)) ⌝ }

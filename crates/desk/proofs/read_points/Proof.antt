@@ -1,17 +1,20 @@
--- `price::read_points` is safe and ends: a point is at most 65,535, which an argument is asked to be. Assumes nothing.
+-- `desk::read_points` is safe and ends: a point is at most 65,535, which an argument is asked to be. Assumes nothing.
 use Prim.Native.Nat.{_≤_, _-_}
 use mathlib.Core.Path.{subst}
 use native.Mathlib.Omega.{arith}
 use Rattle.desk.specs.Decimals.{AtMost}
 use borrow.Author.Needs.{needs}
-use Rattle.price.proofs.read_points.Statement.{statement}
-use Rattle.price.proofs.read_points.Tie as tie
+use Rattle.desk.proofs.read_points.Statement.{statement}
+use Rattle.desk.proofs.read_points.Tie as tie
 
 abbrev Inv-loop : tie.InvT-loop
 Inv-loop points₀ count i₀ points i = i ≤ count
 
 abbrev μ-loop : tie.MeasureT-loop
 μ-loop points₀ count i₀ points i = count - i
+
+point-count-requires : tie.Need-point-count-requires Inv-loop μ-loop
+point-count-requires c κs = search needs
 
 loop-holds : tie.Need-loop-holds Inv-loop μ-loop
 loop-holds c = search needs
@@ -54,12 +57,16 @@ loop-again c = search needs
 returns-2 : tie.Need-returns-2 Inv-loop μ-loop
 returns-2 c = search needs
 
+returns-3 : tie.Need-returns-3 Inv-loop μ-loop
+returns-3 c = search needs
+
 pub read-points-spec : {M : Type 1} → statement M
 read-points-spec =
     tie.close
     (tie.spec
     Inv-loop
     μ-loop
+    point-count-requires
     loop-holds
     add-argument
     argument-requires
@@ -72,4 +79,5 @@ read-points-spec =
     add-i
     loop-less
     loop-again
-    returns-2)
+    returns-2
+    returns-3)

@@ -11,7 +11,7 @@ use mathlib.Core.Path.{_≡_, refl, sym, ap, _∙_}
 use mathlib.Core.Bool.{Bool, true, false, cond, _||_, or-assoc, or-false, true≢false}
 use mathlib.Core.List.{List, [], _∷_, _++_}
 use Rattle.model.specs.Task.{Task, blockCount}
-use Rattle.model.specs.Lines.{lineOf, onLine, lastRead, firstRead, anyRead, sameBlock, readsOf, stateAfter, nextRead, useful}
+use Rattle.model.specs.Lines.{lineOf, onLine, lastRead, firstRead, anyRead, sameBlock, readsOf, preempterReads, stateAfter, nextRead, useful, evicted}
 use Rattle.model.specs.Laws.{EmptyNotUseful, UsefulStart, UsefulEnd}
 use Rattle.model.specs.declared.Line.{Line}
 use Rattle.model.specs.declared.Line.the-variants.{Empty, Held}
@@ -98,6 +98,10 @@ module _ (t : Task) (least : 1 ≤ t .lineCount) (c : ℕ) (beyond : t .lineCoun
   unfolding anyRead onLine lineOf
   unread-beyond [] = refl
   unread-beyond (x ∷ xs) = rw (ne-eqb c (x % t .lineCount) (λ e. omega (arith, mod-lt x least))) (unread-beyond xs)
+
+  pub evicted-beyond : evicted t c ≡ false
+  unfolding evicted
+  evicted-beyond = unread-beyond (preempterReads (t .preempters))
 
   pub useful-beyond : (k : ℕ) → useful t k c ≡ false
   unfolding useful nextRead

@@ -170,15 +170,24 @@ fn evicted_lines(file: &[u8]) -> LineSet
     ensures { λ r. ⌜ ((c : ℕ) → members r c ≡ evicted (taskOf (now (file .entry))) c) ⌝ }
 {
     let cache = cacheline::cache_of(file);
+    let mut marks = [false; 512];
+    mark_evicted(&mut marks, file, cache);
+    marked_lines(&marks, cache.count as usize)
+}
+
+// Marks the lines of H; the array is lent with no mark.
+pub fn mark_evicted(marks: &mut [bool; 512], file: &[u8], cache: Cache)
+    requires { ⌜ (now marks ≡ replicate 512 false) × (verdict (now file) ≡ Verdict.Accepted) × CacheOf (taskOf (now file)) cache ⌝ }
+    ensures { λ _. ⌜ length (now (marks .exit)) ≡ 512 ⌝ }
+    ensures { λ _. ⌜ ((d : ℕ) → getD (now (marks .exit)) d false ≡ evicted (taskOf (now (file .entry))) d) ⌝ }
+{
     let first = taskfile::block_count(file) + 1;
     let end = first + taskfile::preempter_count(file);
-    let mut marks = [false; 512];
     let mut k = first;
     while k < end {
-        mark_reads(&mut marks, file, cache, k);
+        mark_reads(marks, file, cache, k);
         k += 1;
     }
-    marked_lines(&marks, cache.count as usize)
 }
 
 // Marks the lines that block k of the file reads.
@@ -261,7 +270,7 @@ fn add_reread(sets: &mut [u64; 1048], line: Line, number: u32, c: usize, from: u
 }
 
 // Whether a line holds this memory block.
-fn holds(line: Line, number: u32) -> bool
+pub fn holds(line: Line, number: u32) -> bool
     ensures { λ r. ⌜ r ≡ sameBlock line (Line.Held number) ⌝ }
 {
     match line {

@@ -1,128 +1,40 @@
--- `reuse::evicted_lines` meets its contract. The loop's invariant: a line is marked if a preempter block passed reads it. No line beyond the cache is read.
+-- `reuse::evicted_lines` meets its contract: no line beyond the cache is evicted.
 -- Assumes nothing.
-use Prim.Native.Nat.{ℕ, _+_, _-_, _≤_, _<_}
-use mathlib.Core.Path.{_≡_, refl, sym, ap, _∙_}
-use mathlib.Core.Bool.{Bool, false, _||_}
+use mathlib.Core.Path.{sym, _∙_}
 use mathlib.Core.Logic.{by-cases}
 use native.Mathlib.Decide.{decLt}
 use native.Mathlib.Omega.{arith}
-use lib.ListN.{length, getD, getD-replicate}
 use borrow.Author.Tests.{lt-ltb, le-ltb}
-use Rattle.model.specs.Lines.{onLine, anyRead, preempterReads, evicted}
-use Rattle.model.proofs.LineStates.{any-append, unread-beyond}
-use Rattle.taskfile.specs.File.{header, taskOf, entryReads}
-use Rattle.taskfile.proofs.Accepted.{readsBetween, between-more, preempter-reads}
-use Rattle.taskfile.proofs.Accepted as accepted-file
+use Rattle.model.proofs.LineStates.{evicted-beyond}
+use Rattle.taskfile.specs.File.{taskOf}
 use borrow.Author.Needs.{needs}
 use Rattle.reuse.proofs.evicted_lines.Statement.{statement}
 use Rattle.reuse.proofs.evicted_lines.Tie as tie
 
-abbrev Inv-loop : tie.InvT-loop
-Inv-loop file cache first end marks₀ k₀ marks k =
-    (length marks ≡ 512) × (first ≤ k) × (k ≤ end) ×
-    ((c : ℕ) → c < 512 → getD marks c false ≡ anyRead (onLine (taskOf file) c) (readsBetween file first (k - first)))
-
-abbrev μ-loop : tie.MeasureT-loop
-μ-loop file cache first end marks₀ k₀ marks k = end - k
-
-cache-of-requires : tie.Need-cache-of-requires Inv-loop μ-loop
+cache-of-requires : tie.Need-cache-of-requires
 cache-of-requires c κs = search needs
 
-block-count-requires : tie.Need-block-count-requires Inv-loop μ-loop
-block-count-requires c κs = search needs
+mark-evicted-requires : tie.Need-mark-evicted-requires
+mark-evicted-requires c κs = search needs
 
-add-first : tie.Need-add-first Inv-loop μ-loop
-add-first c = omega arith
+cast-marked-lines : tie.Need-cast-marked-lines
+cast-marked-lines c = search needs
 
-preempter-count-requires : tie.Need-preempter-count-requires Inv-loop μ-loop
-preempter-count-requires c κs = search needs
-
-add-end : tie.Need-add-end Inv-loop μ-loop
-add-end c = omega arith
-
-loop-holds : tie.Need-loop-holds Inv-loop μ-loop
-unfolding readsBetween anyRead
-loop-holds c =
-    let none : c .before .block-count .result + 1 - (c .before .block-count .result + 1) ≡ 0 = omega arith in
-    (refl, omega arith, omega arith, λ d h. rw none (getD-replicate 512 d false false h))
-
-mark-reads-requires : tie.Need-mark-reads-requires Inv-loop μ-loop
-mark-reads-requires c κs =
-    let start = c .before .before .before .before .before .before .before in
-    let cache = c .before .before .before .before .before .cache-of in (
-      c .before .before .loop .inv .0,
-      (
-        (
-          start .pre,
-          omega arith,
-          omega (arith, accepted-file.block-count (start .args .file .now), accepted-file.preempter-count (start .args .file .now)),
-        ),
-        cache .ensures,
-      ),
-    )
-
-add-k : tie.Need-add-k Inv-loop μ-loop
-add-k c = omega arith
-
-loop-less : tie.Need-loop-less Inv-loop μ-loop
-loop-less c = omega arith
-
-loop-again : tie.Need-loop-again Inv-loop μ-loop
-loop-again c =
-    let file = c .before .before .before .before .before .before .before .before .args .file .now in
-    let first = c .before .before .before .before .before .block-count .result + 1 in
-    let l = c .before .before .before .loop in
-    let more : l .k + 1 - first ≡ l .k - first + 1 = omega arith in
-    let there : first + (l .k - first) ≡ l .k = omega arith in (
-      c .mark-reads .ensures .0,
-      omega arith,
-      omega arith,
-      λ d h.
-          c .mark-reads .ensures .1 d h ∙ ap (λ (x : Bool). x || anyRead (onLine (taskOf file) d) (entryReads file (l .k))) (l .inv .3 d h) ∙
-          sym (rw (more, between-more file first (l .k - first), any-append, there) refl),
-    )
-
-cast-marked-lines : tie.Need-cast-marked-lines Inv-loop μ-loop
-cast-marked-lines c = omega arith
-
-marked-lines-requires : tie.Need-marked-lines-requires Inv-loop μ-loop
+marked-lines-requires : tie.Need-marked-lines-requires
 marked-lines-requires c κs = search needs
 
-returns : tie.Need-returns Inv-loop μ-loop
-unfolding evicted
+returns : tie.Need-returns
 returns c =
-    let l = c .before .before .before .before .loop in
-    let counted = c .before .before .before .before .before .before in
-    let cache = counted .before .cache-of in
-    let file = counted .before .before .before .args .file .now in
-    let first = counted .block-count .result + 1 in
-    let all : l .k - first ≡ header file .preempters = omega (arith, accepted-file.preempter-count file) in
-    let from : first ≡ 1 + header file .blocks = omega (arith, accepted-file.block-count file) in
+    let marked = c .before .before .before in
+    let cache = marked .before .before .cache-of in
+    let file = marked .before .before .before .before .args .file .now in
     let of = cache .ensures in
     λ d.
     c .marked-lines .ensures d ∙
-    by-cases (decLt d (cache .result .count))
-    (λ h. rw (lt-ltb d (cache .result .count) h) (l .inv .3 d (omega (arith, of .sound .most)) ∙ rw (all, from, ← preempter-reads file) refl))
+    by-cases (decLt d (cache .result .count)) (λ h. rw (lt-ltb d (cache .result .count) h) (marked .mark-evicted .ensures .1 d))
     (λ h.
     rw (le-ltb d (cache .result .count) (omega arith))
-    (sym (unread-beyond (taskOf file) (omega (arith, of .sound .some, of .count)) d (omega (arith, of .count)) (preempterReads (taskOf file .preempters)))))
+    (sym (evicted-beyond (taskOf file) (omega (arith, of .sound .some, of .count)) d (omega (arith, of .count)))))
 
 pub evicted-lines-spec : {M : Type 1} → statement M
-evicted-lines-spec =
-    tie.close
-    (tie.spec
-    Inv-loop
-    μ-loop
-    cache-of-requires
-    block-count-requires
-    add-first
-    preempter-count-requires
-    add-end
-    loop-holds
-    mark-reads-requires
-    add-k
-    loop-less
-    loop-again
-    cast-marked-lines
-    marked-lines-requires
-    returns)
+evicted-lines-spec = tie.close (tie.spec cache-of-requires mark-evicted-requires cast-marked-lines marked-lines-requires returns)

@@ -1,5 +1,5 @@
 #!/bin/sh
-# Runs the programs plan, price, next_read and useful, and says where they print something else than documents 01 and 02 have.
+# Runs the programs plan, price, next_read, useful and replay, and says where they print something else than documents 01 and 02 have.
 set -u
 cd "$(dirname "$0")/.."
 seven=crates/planner_cases/data/seven
@@ -73,15 +73,25 @@ region 0 1 length 20
 region 1 2 length 20
 region 2 3 length 30' plan
 
+# the misses of a list, within the limit or not
+prints $seven-60 'misses 4 with points 4' replay
+prints $seven-60 'misses 4 with points 5' replay 3
+prints $seven-60 'misses 4 with points 5' replay 1 2
+prints $seven-29 'misses 4 with points 6' replay 1 2 3
+prints $seven-60 'refused 7 at 1' replay 2 2
+prints $seven-60 'refused 7 at 0' replay 4
+
 # the file's refusals come before those of the list
 prints /dev/null 'refused 1 at 0' price 2 2
 prints $damaged/sum-block-3 'refused 2 at 3' price 2 2
 prints $damaged/n-65 'refused 3 at 0' price 2 2
+prints $damaged/sum-block-3 'refused 2 at 3' replay 2 2
 
 # a list of 64 points or more is refused at one of the first 64
 prints $largest 'refused 7 at 63' price $(seq 64)
 prints $largest 'refused 7 at 63' price $(seq 70)
 prints $largest 'refused 7 at 0' price 0 $(seq 70)
+prints $largest 'refused 7 at 63' replay $(seq 70)
 
 # next_read LINE K: the number of the next read of the line after block K, and how many reads were looked at
 prints $seven-60 'read 0 looked 1' next_read 0 0
@@ -162,5 +172,8 @@ usage useful x
 usage useful -1
 usage useful 1 2
 usage useful 18446744073709551616
+
+usage replay x
+usage replay $(seq 70) 65536
 
 exit $failed

@@ -1,5 +1,5 @@
-//! Times the planner's two calls, its search for the next read and U(k) against the same work
-//! written for speed in plain Rust, in one process and in turns. Every figure is the median of
+//! Times the planner's two calls, its search for the next read, U(k) and the replay against the same
+//! work written for speed in plain Rust, in one process and in turns. Every figure is the median of
 //! many rounds.
 
 mod by_line;
@@ -7,6 +7,7 @@ mod checks;
 mod fast;
 mod files;
 mod line_sets;
+mod replays;
 mod searches;
 
 use by_line::ByLine;
@@ -41,6 +42,14 @@ extern "C" {
         out: *mut u8,
         out_len: usize,
     ) -> u32;
+    fn probe_replay(
+        file: *const u8,
+        file_len: usize,
+        points: *const u16,
+        points_len: usize,
+        out: *mut u8,
+        out_len: usize,
+    ) -> u32;
 }
 
 const ROUNDS: usize = 151;
@@ -71,6 +80,20 @@ fn planner_next_read(file: &[u8], line: usize, k: usize, out: &mut [u8]) -> u32 
 
 fn planner_useful(file: &[u8], k: usize, out: &mut [u8]) -> u32 {
     unsafe { probe_useful(file.as_ptr(), file.len(), k, out.as_mut_ptr(), out.len()) }
+}
+
+fn planner_replay(file: &[u8], points: &[u16], out: &mut [u8]) -> u32 {
+    let (at, len) = (out.as_mut_ptr(), out.len());
+    unsafe {
+        probe_replay(
+            file.as_ptr(),
+            file.len(),
+            points.as_ptr(),
+            points.len(),
+            at,
+            len,
+        )
+    }
 }
 
 /// Microseconds for one of `count` runs.
@@ -250,6 +273,57 @@ fn search_row(name: &str, file: &[u8], line: usize, k: usize) {
     );
 }
 
+/// Both counts of a replay.
+fn replay_row(name: &str, file: &[u8], points: &[u16]) {
+    let mut counts = [[0u8; 16]; 3];
+    let [ours, walked, cached] = &mut counts;
+    let codes = [
+        planner_replay(file, points, ours),
+        replays::one_walk(file, points, walked),
+        replays::two_caches(file, points, cached),
+    ];
+    let same = codes.iter().all(|&c| c == codes[0]) && ours == walked && ours == cached;
+    println!(
+        "{name}: {} blocks, {} points: misses {} with points {}{}",
+        file.len() / 512,
+        points.len(),
+        word(walked, 0),
+        word(walked, 8),
+        if same { "" } else { ", ANSWERS DIFFER" }
+    );
+
+    let file = || black_box(file);
+    let points = || black_box(points);
+    let [checks] = medians([&mut || {
+        black_box(lowest_wrong(file()));
+    }]);
+    let replay = medians([
+        &mut || {
+            black_box(planner_replay(file(), points(), ours));
+        },
+        &mut || {
+            black_box(replays::one_walk(file(), points(), walked));
+        },
+        &mut || {
+            black_box(replays::two_caches(file(), points(), cached));
+        },
+    ]);
+    println!(
+        "  replay planner {:9.2} us   plain {:8.2} us, ratio {:5.2}   two caches {:5.2} us, ratio {:5.2}",
+        replay[0],
+        replay[1],
+        replay[0] / replay[1],
+        replay[2],
+        replay[0] / replay[2]
+    );
+    println!(
+        "  checksums {checks:15.2} us   share of a replay: planner {:.0}%, plain {:.0}%, two caches {:.0}%",
+        100.0 * checks / replay[0],
+        100.0 * checks / replay[1],
+        100.0 * checks / replay[2]
+    );
+}
+
 fn main() {
     println!("plain: line sets of eight words, carried unions; by line: one word per line");
     println!("all three hash four blocks side by side; medians of {ROUNDS} rounds in turns");
@@ -280,6 +354,14 @@ fn main() {
     }
     search_row("largest file", &drawn(&largest), 0, 32);
     search_row("File Seven", &seven(), 1, 1);
+    println!("a replay; plain: the same one walk; two caches: H emptied by a loop at each point");
+    let file = drawn(&largest);
+    let edges: Vec<u16> = (1..64).collect();
+    let eighths: Vec<u16> = (1..8).map(|i| 8 * i).collect();
+    for points in [&[][..], &eighths, &edges] {
+        replay_row("largest file", &file, points);
+    }
+    replay_row("File Seven", &seven(), &[1, 2]);
     println!("growth, Q without limit:");
     let unlimited = |n, r| {
         drawn(&Shape {

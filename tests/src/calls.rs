@@ -1,4 +1,4 @@
-//! The five calls under test.
+//! The six calls under test.
 
 #[cfg(not(feature = "stub"))]
 mod linked {
@@ -40,6 +40,14 @@ mod linked {
             out: *mut u8,
             out_len: usize,
         ) -> u32;
+        pub fn probe_replay(
+            file: *const u8,
+            file_len: usize,
+            points: *const u16,
+            points_len: usize,
+            out: *mut u8,
+            out_len: usize,
+        ) -> u32;
     }
 }
 
@@ -47,4 +55,6 @@ mod linked {
 pub use linked::*;
 
 #[cfg(feature = "stub")]
-pub use crate::stub::{preempt_plan, preempt_price, probe_next_read, probe_region, probe_useful};
+pub use crate::stub::{
+    preempt_plan, preempt_price, probe_next_read, probe_region, probe_replay, probe_useful,
+};

@@ -2,7 +2,7 @@
 
 pub struct Counts(Vec<(String, u64)>);
 
-const SHAPES: [&str; 40] = [
+const SHAPES: [&str; 47] = [
     "2 above block 0",
     "5 in a basic block",
     "5 in an interrupter",
@@ -39,6 +39,13 @@ const SHAPES: [&str; 40] = [
     "no read after block k",
     "line of S or more",
     "line of 512 or more",
+    "replay of 0 points",
+    "replay of all N-1",
+    "replay above Q",
+    "points add misses",
+    "points add no miss",
+    "a read hits alone",
+    "list above 63 points",
     "file of 97 blocks",
     "end-aligned file",
     "start-aligned file",
@@ -59,6 +66,7 @@ impl Counts {
             ("useful", &["0", "1", "2", "3", "4", "5", "7", "9"][..]),
             ("next", &["0", "1", "2", "3", "4", "5", "7", "9"][..]),
             ("region", &["0", "1", "2", "3", "4", "5", "7", "9"][..]),
+            ("replay", &["0", "1", "2", "3", "4", "5", "7", "9"][..]),
         ] {
             all.extend(answers.iter().map(|a| (format!("{call}: {a}"), 0)));
         }

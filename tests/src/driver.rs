@@ -1,8 +1,10 @@
 //! Makes one call on guarded buffers and compares everything with the reference.
 
-use crate::calls::{preempt_plan, preempt_price, probe_next_read, probe_region, probe_useful};
+use crate::calls::{
+    preempt_plan, preempt_price, probe_next_read, probe_region, probe_replay, probe_useful,
+};
 use crate::pages::{Lane, Side};
-use crate::reference::{hex, Call, Reference, Refusal};
+use crate::reference::{hex, points_in, Call, Reference, Refusal};
 use crate::rng::Rng;
 use crate::watch;
 
@@ -29,13 +31,21 @@ pub fn random_side(rng: &mut Rng) -> Side {
     }
 }
 
+/// Numbers of two bytes lie at an even address, also where there are none.
+fn even_side(rng: &mut Rng, count: usize) -> Side {
+    match random_side(rng) {
+        Side::Start if count > 0 => Side::Start,
+        _ => Side::End,
+    }
+}
+
 impl Driver {
     pub fn new() -> Driver {
         let file = Lane::new(40);
         let file_at = file.pointer(0, Side::End);
         Driver {
             file,
-            points: Lane::new(1),
+            points: Lane::new(40),
             out: Lane::new(1),
             file_at,
             file_len: 0,
@@ -93,6 +103,16 @@ impl Driver {
                 watch::call(format!("probe_region, a {a} b {b}, out of {out_len}"), &[]);
                 unsafe { probe_region(file, file_len, a, b, out, out_len) }
             }
+            Call::Replay(list) => {
+                let bytes: Vec<u8> = list.iter().flat_map(|p| p.to_ne_bytes()).collect();
+                let at = self.points.lend(&bytes, even_side(rng, list.len())) as *const u16;
+                let count = list.len();
+                watch::call(
+                    format!("probe_replay, {count} points, out of {out_len}"),
+                    &bytes,
+                );
+                unsafe { probe_replay(file, file_len, at, count, out, out_len) }
+            }
         };
         let after = self.out.bytes();
         let end = from + out_len;
@@ -144,6 +164,16 @@ impl Driver {
                 code / 65536,
                 code % 65536
             ));
+        }
+        if let Call::Replay(list) = *call {
+            let points = points_in(list);
+            let model = reference.model.as_ref().unwrap();
+            if !model.adds_its_lines(&points) {
+                return Err(format!(
+                    "the reference: {points:?} adds to the misses other than its {} lines",
+                    model.lines_of(&points)
+                ));
+            }
         }
         match reference.answer(call) {
             Some(answer) if answer == after => Ok(Outcome::Answered),

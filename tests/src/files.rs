@@ -689,6 +689,52 @@ pub fn near_points(rng: &mut Rng, n: usize, from: &[usize]) -> Vec<usize> {
     points
 }
 
+/// The longest list for a replay: more than there are two-byte numbers.
+const MOST_LISTED: usize = 70000;
+
+/// Points for a replay, mostly well formed. `good` lists the points worth trying.
+pub fn random_list(rng: &mut Rng, n: usize, good: &[Vec<usize>]) -> Vec<u16> {
+    let mut points = if !good.is_empty() && rng.percent(30) {
+        let from = rng.below(good.len());
+        near_points(rng, n, &good[from])
+    } else {
+        random_points(rng, n)
+    };
+    if rng.percent(40) {
+        for _ in 0..rng.pick(&[1, 1, 1, 2, 3]) {
+            damage_list(rng, n, &mut points);
+        }
+    }
+    points.truncate(MOST_LISTED);
+    points.iter().map(|&p| p as u16).collect()
+}
+
+fn damage_list(rng: &mut Rng, n: usize, points: &mut Vec<usize>) {
+    let at = rng.between(0, points.len());
+    match rng.below(9) {
+        0 => points.insert(at, 0),
+        1 => points.insert(at, n),
+        2 => points.insert(at, rng.between(0, n + 1)),
+        3 => {
+            let above = rng.pick(&[n + 1, n + 2, 63, 64, 65, 255, 256, 32768, 65535]);
+            points.insert(at, above);
+        }
+        4 if at < points.len() => points.insert(at, points[at]),
+        5 if at < points.len() => points[at] += rng.pick(&[64, 256, 32768]),
+        6 => points.reverse(),
+        7 => {
+            // Rising once more, up to N.
+            let low = rng.between(1, n);
+            points.extend(low..=n);
+        }
+        _ => {
+            for _ in 0..rng.pick(&[1, 2, 64, 300, 5000, MOST_LISTED]) {
+                points.push(rng.below(65536));
+            }
+        }
+    }
+}
+
 /// A readable plan block; lines, price and id are anything.
 pub fn points_block(rng: &mut Rng, n: usize, points: &[usize]) -> Vec<u8> {
     let price = if rng.percent(50) {

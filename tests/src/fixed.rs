@@ -5,8 +5,8 @@ use crate::driver::{Driver, Outcome};
 use crate::files::{file_of, largest, reads, seven};
 use crate::pages::Side;
 use crate::reference::{
-    empty_set, fnv1a, next_read, plan_block, put, seal, set_bytes, Call, Found, Reference, Task,
-    BLOCK,
+    empty_set, fnv1a, next_read, plan_block, points_in, put, replay, seal, set_bytes, Call, Found,
+    Misses, Reference, Task, BLOCK,
 };
 use crate::rng::Rng;
 use crate::watch;
@@ -98,6 +98,18 @@ impl Fixed<'_> {
         }
     }
 
+    fn misses(&mut self, list: &[u16], alone: u64, with_points: u64) -> Result<(), String> {
+        self.anything(&Call::Replay(list))?;
+        let right = Misses { alone, with_points };
+        let model = self.reference.model.as_ref().unwrap();
+        match replay(&model.task, &points_in(list)) {
+            found if found == right => Ok(()),
+            found => Err(format!(
+                "points {list:?}: the reference finds {found:?} and not {right:?}"
+            )),
+        }
+    }
+
     fn anything(&mut self, call: &Call) -> Result<(), String> {
         self.driver
             .check(&mut self.rng, &self.reference, call, call.out_len())
@@ -157,6 +169,18 @@ pub fn run(driver: &mut Driver) -> Result<(), String> {
     f.refused(&Call::NextRead(0, 5), 7, 0)?;
     f.refused(&Call::NextRead(4, 5), 7, 0)?;
     f.refused(&Call::Region(2, 2), 7, 0)?;
+    f.misses(&[], 4, 4)?;
+    f.misses(&[1, 2], 4, 5)?;
+    f.misses(&[1, 2, 3], 4, 6)?;
+    f.misses(&[3], 4, 5)?;
+    f.refused(&Call::Replay(&[0]), 7, 0)?;
+    f.refused(&Call::Replay(&[4]), 7, 0)?;
+    f.refused(&Call::Replay(&[2, 2]), 7, 1)?;
+    f.refused(&Call::Replay(&[1, 3, 2]), 7, 2)?;
+    f.refused(&Call::Replay(&[1, 2, 3, 4]), 7, 3)?;
+    let all: Vec<u16> = (1..=65535).collect();
+    f.refused(&Call::Replay(&all), 7, 3)?;
+    f.refused(&Call::Replay(&vec![1; 70000]), 7, 1)?;
     let far = [
         255,
         256,
@@ -187,6 +211,8 @@ pub fn run(driver: &mut Driver) -> Result<(), String> {
     f.planned(&[1, 2, 3], 20)?;
     f.task("File Seven, Q 29", &seven(29));
     f.refused(&Call::Plan, 6, 0)?;
+    f.misses(&[1], 4, 5)?;
+    f.misses(&[1, 2, 3], 4, 6)?;
 
     // The table that block 1 reads is read once more, in block 3.
     let mut task = seven(40);
@@ -225,6 +251,10 @@ pub fn run(driver: &mut Driver) -> Result<(), String> {
     let most = largest();
     f.task("the largest file", &most);
     f.plans_something()?;
+    let all: Vec<u16> = (1..64).collect();
+    f.anything(&Call::Replay(&all))?;
+    f.anything(&Call::Replay(&[]))?;
+    f.refused(&Call::Replay(&[&all[..], &[64]].concat()), 7, 63)?;
     for k in [0, 1, 32, 63, 64] {
         f.anything(&Call::Useful(k))?;
         for line in [0, 44, 300, 511, 512] {
@@ -282,6 +312,7 @@ fn changed_bits(f: &mut Fixed) -> Result<(), String> {
                 f.anything(&Call::Useful(2))?;
                 f.anything(&Call::NextRead(1, 1))?;
                 f.anything(&Call::Region(1, 3))?;
+                f.anything(&Call::Replay(&[1, 3]))?;
             }
         }
     }

@@ -18,7 +18,7 @@ mod watch;
 use counts::Counts;
 use driver::{random_side, Driver, Outcome};
 use pages::Side;
-use reference::{Call, Reference, Task, BLOCK, MOST_BLOCKS};
+use reference::{Call, Model, Reference, Task, BLOCK, MOST_BLOCKS};
 use rng::Rng;
 use std::process::ExitCode;
 
@@ -100,6 +100,7 @@ fn out_len(rng: &mut Rng, right: usize) -> usize {
         rng.pick(&[
             0,
             1,
+            16,
             24,
             64,
             72,
@@ -191,7 +192,7 @@ fn count_refusal(counts: &mut Counts, call: &str, outcome: &Outcome, n: usize) {
     counts.add_if(r.number == 5 && r.place as usize <= n, "5 in a basic block");
     counts.add_if(r.number == 5 && r.place as usize > n, "5 in an interrupter");
     counts.add_if(
-        call == "price" && r.number == 7 && r.place == 0,
+        matches!(call, "price" | "replay") && r.number == 7 && r.place == 0,
         "7 at index 0",
     );
     counts.add_if(r.number == 7 && r.place > 0, "7 above index 0");
@@ -305,7 +306,37 @@ fn run_case(
             counts.add_if(model.loads_for_the_last_time(a, b), "last read loaded");
         }
     }
+    for _ in 0..if accepted { 4 } else { 1 } {
+        let list = files::random_list(rng, n, &good);
+        let len = out_len(rng, 16);
+        let outcome = driver
+            .check(rng, &reference, &Call::Replay(&list), len)
+            .map_err(|text| format!("points: {:?}\n{text}", &list[..list.len().min(100)]))?;
+        count_refusal(counts, "replay", &outcome, named);
+        counts.add_if(list.len() > 63, "list above 63 points");
+        if let Outcome::Answered = outcome {
+            let model = reference.model.as_ref().unwrap();
+            count_replay(counts, model, &reference::points_in(&list));
+        }
+    }
     Ok(())
+}
+
+fn count_replay(counts: &mut Counts, model: &Model, points: &[usize]) {
+    let misses = reference::replay(&model.task, points);
+    let reads: usize = model.task.blocks.iter().map(|b| b.numbers.len()).sum();
+    counts.add_if(points.is_empty(), "replay of 0 points");
+    counts.add_if(
+        model.n > 2 && points.len() == model.n - 1,
+        "replay of all N-1",
+    );
+    counts.add_if(model.first_above(points).is_some(), "replay above Q");
+    counts.add_if(misses.with_points > misses.alone, "points add misses");
+    counts.add_if(
+        !points.is_empty() && misses.with_points == misses.alone,
+        "points add no miss",
+    );
+    counts.add_if(misses.alone < reads as u64, "a read hits alone");
 }
 
 fn count_search(counts: &mut Counts, task: &Task, line: usize, k: usize) {

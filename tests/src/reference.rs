@@ -378,6 +378,12 @@ impl Model {
         self.task.reload as u64 * self.lines_of(points)
     }
 
+    /// Whether points add as many misses as their list has lines, whatever the limit.
+    pub fn adds_its_lines(&self, points: &[usize]) -> bool {
+        let misses = replay(&self.task, points);
+        misses.with_points == misses.alone + self.lines_of(points)
+    }
+
     /// Lowest stretch above Q.
     pub fn first_above(&self, points: &[usize]) -> Option<usize> {
         self.stretches(points)
@@ -518,6 +524,56 @@ fn found_bytes(found: Found) -> Vec<u8> {
     words.iter().flat_map(|w| w.to_le_bytes()).collect()
 }
 
+/// The reads that miss in a cache that starts empty. A read misses unless its line holds its number,
+/// which it does afterwards. At each point every line of H becomes empty.
+fn misses(task: &Task, points: &[usize]) -> u64 {
+    let struck = struck_lines(task);
+    let mut cache: Vec<Option<u32>> = vec![None; LINES];
+    let mut count = 0;
+    for (k, block) in (1..).zip(&task.blocks) {
+        for &m in &block.numbers {
+            let line = m as usize % task.lines;
+            if cache[line] != Some(m) {
+                count += 1;
+            }
+            cache[line] = Some(m);
+        }
+        if points.contains(&k) {
+            for c in 0..LINES {
+                if struck[c] {
+                    cache[c] = None;
+                }
+            }
+        }
+    }
+    count
+}
+
+/// Two walks over the reads, the first without points.
+#[derive(Clone, Copy, PartialEq, Eq, Debug)]
+pub struct Misses {
+    pub alone: u64,
+    pub with_points: u64,
+}
+
+pub fn replay(task: &Task, points: &[usize]) -> Misses {
+    Misses {
+        alone: misses(task, &[]),
+        with_points: misses(task, points),
+    }
+}
+
+/// Two words of eight bytes.
+fn misses_bytes(misses: Misses) -> Vec<u8> {
+    let words = [misses.alone, misses.with_points];
+    words.iter().flat_map(|w| w.to_le_bytes()).collect()
+}
+
+/// The points of a list of two-byte numbers.
+pub fn points_in(list: &[u16]) -> Vec<usize> {
+    list.iter().map(|&p| p as usize).collect()
+}
+
 pub enum Call<'a> {
     Plan,
     Price(&'a [u8]),
@@ -525,6 +581,7 @@ pub enum Call<'a> {
     /// A line, and the block after which it is looked for.
     NextRead(usize, usize),
     Region(usize, usize),
+    Replay(&'a [u16]),
 }
 
 impl Call<'_> {
@@ -534,6 +591,7 @@ impl Call<'_> {
             Call::Useful(_) => 64,
             Call::NextRead(..) => 24,
             Call::Region(..) => 72,
+            Call::Replay(_) => 16,
         }
     }
 }
@@ -606,6 +664,11 @@ impl Reference {
                     return refuse(7, 0);
                 }
             }
+            Call::Replay(list) => {
+                if let Some(i) = wrong_point(model.n, &points_in(list)) {
+                    return refuse(7, i);
+                }
+            }
         }
         None
     }
@@ -635,6 +698,7 @@ impl Reference {
                 bytes.extend_from_slice(&model.length(a, b).to_le_bytes());
                 Some(bytes)
             }
+            Call::Replay(list) => Some(misses_bytes(replay(&model.task, &points_in(list)))),
         }
     }
 

@@ -1,4 +1,4 @@
-//! The five calls without the planner. They answer from the reference; with STUB_BUG set they
+//! The six calls without the planner. They answer from the reference; with STUB_BUG set they
 //! answer from a second implementation that has that bug. STUB_BUG=none is that implementation
 //! without any. `opponent bugs` tries them all and says which are noticed.
 
@@ -6,7 +6,7 @@ use crate::reference::{Call, Reference};
 use std::process::{Command, ExitCode};
 use std::sync::{Mutex, OnceLock};
 
-pub const BUGS: [&str; 106] = [
+pub const BUGS: [&str; 129] = [
     "line numbers in eight bits",
     "line numbers in nine bits with S 512 as 511",
     "number 0 as empty",
@@ -113,6 +113,29 @@ pub const BUGS: [&str; 106] = [
     "looked at from block 1",
     "looked at all",
     "looked at none if none is found",
+    "H emptied before the block of a point",
+    "H emptied a block after a point",
+    "a miss that doesn't load",
+    "a miss loads an empty line alone",
+    "a hit counted as a miss",
+    "all lines emptied at a point",
+    "lines that the block read kept at a point",
+    "H emptied at the first point alone",
+    "number 0 never hit",
+    "numbers hit in sixteen bits",
+    "the second walk begins with the first one's cache",
+    "points in the first walk too",
+    "the counts exchanged",
+    "added misses in place of the second count",
+    "misses in eight bits",
+    "a replay refused above Q",
+    "a replay's points in eight bits",
+    "a replay's points after the 63rd passed over",
+    "a replay's wrong points passed over",
+    "a replay's wrong point at 0",
+    "misses written on refusal 7",
+    "a replay's points read beyond their end",
+    "a replay's points written",
 ];
 
 fn bug() -> &'static str {
@@ -231,6 +254,18 @@ pub unsafe fn probe_region(
     out_len: usize,
 ) -> u32 {
     answer(file, file_len, &Call::Region(a, b), out, out_len)
+}
+
+pub unsafe fn probe_replay(
+    file: *const u8,
+    file_len: usize,
+    points: *const u16,
+    points_len: usize,
+    out: *mut u8,
+    out_len: usize,
+) -> u32 {
+    let points = std::slice::from_raw_parts(points, points_len);
+    answer(file, file_len, &Call::Replay(points), out, out_len)
 }
 
 static LAST: Mutex<Option<(Vec<u8>, Reference)>> = Mutex::new(None);
@@ -817,6 +852,13 @@ fn broken(
         ("points read beyond their end", Call::Price(p)) => unsafe {
             p.as_ptr().add(p.len()).read_volatile();
         },
+        ("a replay's points written", Call::Replay(p)) if !p.is_empty() => unsafe {
+            let at = p.as_ptr() as *mut u16;
+            at.write_volatile(at.read_volatile())
+        },
+        ("a replay's points read beyond their end", Call::Replay(p)) => unsafe {
+            p.as_ptr().add(p.len()).read_volatile();
+        },
         _ => {}
     }
     let file = slice(file_at, file_len);
@@ -933,6 +975,40 @@ fn broken_answer(file: &[u8], call: &Call, out: &mut [u8]) -> Result<(), u32> {
             hand_out(&loaded(&sets, a, b), Some(length(&t, &sets, a, b)), out);
             Ok(())
         }
+        Call::Replay(list) => {
+            let wide = if has("a replay's points in eight bits") {
+                256
+            } else {
+                65536
+            };
+            let most = if has("a replay's points after the 63rd passed over") {
+                63
+            } else {
+                list.len()
+            };
+            let points: Vec<usize> = list.iter().take(most).map(|&p| p as usize % wide).collect();
+            let mut wrong = points_refusal(&points, t.n);
+            match bug() {
+                "a replay's wrong points passed over" => wrong = None,
+                "a replay's wrong point at 0" => wrong = wrong.map(|_| 0),
+                _ => {}
+            }
+            if let Some(i) = wrong {
+                if has("misses written on refusal 7") && right_out {
+                    out.copy_from_slice(&replay(&t, &sets, &points).map(u64::to_le_bytes).concat());
+                }
+                return Err(code(7, i));
+            }
+            if has("a replay refused above Q") {
+                let above = |&(a, b): &(usize, usize)| !within(&t, &sets, a, b);
+                if let Some(i) = cuts(&t, &points).iter().position(above) {
+                    return Err(code(8, i));
+                }
+            }
+            last(out)?;
+            out.copy_from_slice(&replay(&t, &sets, &points).map(u64::to_le_bytes).concat());
+            Ok(())
+        }
     }
 }
 
@@ -988,6 +1064,76 @@ fn search(t: &Task, c: usize, k: usize) -> [u64; 3] {
         found.unwrap_or(0) as u64,
         looked as u64,
     ]
+}
+
+/// Both walks: two caches at each read.
+fn replay(t: &Task, sets: &Sets, points: &[usize]) -> [u64; 2] {
+    let mut alone = vec![None; 512];
+    let mut preempted = vec![None; 512];
+    let mut counts = [0; 2];
+    if has("the second walk begins with the first one's cache") {
+        for &m in t.reads.iter().flatten() {
+            preempted[line(m, t.s)] = Some(m);
+        }
+    }
+    let emptied = |c: usize| sets.struck[c / 64] >> (c % 64) & 1 == 1;
+    let mut passed = 0;
+    for k in 1..=t.n {
+        for &m in &t.reads[k - 1] {
+            let c = line(m, t.s);
+            counts[0] += fetch(&mut alone[c], m);
+            counts[1] += fetch(&mut preempted[c], m);
+        }
+        let at = match bug() {
+            "H emptied before the block of a point" => k + 1,
+            "H emptied a block after a point" => k - 1,
+            _ => k,
+        };
+        if !points.contains(&at) {
+            continue;
+        }
+        passed += 1;
+        for c in 0..512 {
+            let here = match bug() {
+                "all lines emptied at a point" => true,
+                "lines that the block read kept at a point" => {
+                    emptied(c) && sets.touched[k][c / 64] >> (c % 64) & 1 == 0
+                }
+                "H emptied at the first point alone" => emptied(c) && passed == 1,
+                _ => emptied(c),
+            };
+            if here {
+                preempted[c] = None;
+                if has("points in the first walk too") {
+                    alone[c] = None;
+                }
+            }
+        }
+    }
+    match bug() {
+        "the counts exchanged" => [counts[1], counts[0]],
+        "added misses in place of the second count" => [counts[0], counts[1] - counts[0]],
+        "misses in eight bits" => counts.map(|count| count % 256),
+        _ => counts,
+    }
+}
+
+/// 1 for a miss.
+fn fetch(held: &mut Option<u32>, m: u32) -> u64 {
+    let hit = match bug() {
+        "number 0 never hit" => *held == Some(m) && m != 0,
+        "numbers hit in sixteen bits" => held.is_some_and(|h| h as u16 == m as u16),
+        _ => *held == Some(m),
+    };
+    let loads = match bug() {
+        "a miss that doesn't load" => false,
+        "a miss loads an empty line alone" => held.is_none(),
+        _ => true,
+    };
+    if !hit && loads {
+        *held = Some(m);
+    }
+    (!hit || has("a hit counted as a miss")) as u64
 }
 
 fn hand_out(set: &Words, length: Option<u64>, out: &mut [u8]) {

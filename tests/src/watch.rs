@@ -97,7 +97,7 @@ pub fn failed(text: &str) {
     println!("file, {} bytes; {}", now.file.len(), fields(&now.file));
     print!("{}", hex(&now.file));
     if !now.points.is_empty() {
-        println!("points block, {} bytes", now.points.len());
+        println!("points, {} bytes", now.points.len());
         print!("{}", hex(&now.points));
     }
 }

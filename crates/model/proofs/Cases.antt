@@ -10,13 +10,14 @@ use native.Mathlib.Decide.{ℕ-discrete, decLe}
 use native.Mathlib.Nat.{le-of-eq, le-of-lt, le-trans}
 use lib.Dec.{eqb, ltb, leb}
 use borrow.Author.Tests.{eqb-true, le-leb, ltb-true, not-true}
-use Rattle.model.specs.Sets.{Lines, countBelow}
+use Rattle.model.specs.Sets.{Lines, listed, countBelow}
 use Rattle.model.specs.Task.{Task, blockCount}
 use Rattle.model.specs.Lines.{lineOf, onLine, lastRead, firstRead, anyRead, readsOf, preempterReads, blockAt, stateAfter, nextRead, lookedAt, readsLookedAt, asNext, useful, accessed, evicted}
 use Rattle.model.specs.Lists.{steps, regions, every, total, lowest, wellFormed, before, among, sameList, risingLists, allLists}
 use Rattle.model.specs.Regions.{unionAfter, timeAfter, loaded, regionLines, regionLength, regionFits, regionCost, lines, cost, fits, FirstBest, NoPlacementFits}
+use Rattle.model.specs.Replay.{miss, fetch, misses, after, emptied, atEdge, walk, missesWith, missesAlone}
 use Rattle.model.specs.Answers.{accepted, pricing, number, place}
-use Rattle.model.specs.Cases.{Case, usefulAre, nextIs, evictedAre, loadedAre, lengthIs, bestAre, firstIs, fittingAre, noneFits, priced, refused, lineIs, listed, RefusedBy, CaseHolds, cases}
+use Rattle.model.specs.Cases.{Case, usefulAre, nextIs, evictedAre, loadedAre, lengthIs, bestAre, firstIs, fittingAre, noneFits, priced, refused, lineIs, replayed, RefusedBy, CaseHolds, cases}
 use Rattle.model.specs.Planning.{chosen, Planned}
 use Rattle.model.specs.Laws.{CasesHold}
 use Rattle.model.specs.declared.Next.{Next}
@@ -78,6 +79,7 @@ test (noneFits t n i) = onAll t (λ ps. not (fits t ps)) && refusedBy n i (Refus
 test (priced t ps l p) = accepted (pricing t ps) && eqb (lines t ps) l && eqb (cost t ps) p
 test (refused t ps n i) = refusedBy n i (pricing t ps)
 test (lineIs t m c) = eqb (lineOf t m) c
+test (replayed t ps a b) = eqb (missesAlone t) a && eqb (missesWith t ps) b
 
 everyCase : List Case → Bool
 everyCase [] = true
@@ -232,9 +234,12 @@ sound (priced t ps l p) h =
     (is-accepted (pricing t ps) (two .0), eqb-true (lines t ps) l (two .1), eqb-true (cost t ps) p (three .1))
 sound (refused t ps n i) h = is-refused n i (pricing t ps) h
 sound (lineIs t m c) h = λ d. ap (λ (x : ℕ). eqb d x) (eqb-true (lineOf t m) c h)
+sound (replayed t ps a b) h =
+    let both = and-split (eqb (missesAlone t) a) (eqb (missesWith t ps) b) h in
+    (eqb-true (missesAlone t) a (both .0), eqb-true (missesWith t ps) b (both .1))
 
 all-pass : everyCase cases ≡ true
-unfolding everyCase test agreeBelow everyList onAll exactly some ahead sameNext refusedBy listed useful stateAfter nextRead lastRead firstRead lookedAt readsLookedAt readsOf lineOf onLine accessed anyRead blockAt evicted preempterReads loaded unionAfter regionLines countBelow regionLength timeAfter regionFits regionCost every total lowest regions steps before among sameList risingLists
+unfolding everyCase test agreeBelow everyList onAll exactly some ahead sameNext refusedBy listed useful stateAfter nextRead lastRead firstRead lookedAt readsLookedAt readsOf lineOf onLine accessed anyRead blockAt evicted preempterReads loaded unionAfter regionLines countBelow regionLength timeAfter regionFits regionCost every total lowest regions steps before among sameList risingLists miss fetch misses after emptied atEdge walk missesWith missesAlone
 all-pass = refl
 
 held : (cs : List Case) → everyCase cs ≡ true → (c : Case) → List·Memᴰ c cs → CaseHolds c

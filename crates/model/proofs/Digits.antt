@@ -3,10 +3,13 @@
 use mathlib.Core.Bool.{Bool, true, false, _&&_, _||_, xor}
 use mathlib.Core.Path.{_≡_, refl, sym, ap, ap₂, _∙_, fun-ext}
 use Prim.Native.Nat.{ℕ, zero, suc, _+_, _*_, _/_, _%_, _^_, _≤_, _<_, zero-le}
-use native.Mathlib.Nat.{le-refl, le-of-suc-le-suc, not-suc-le-zero, zero-lt-suc, add-zero, add-suc, add-assoc, one-mul, mul-assoc, pow-suc}
+use native.Mathlib.Nat.{le-refl, le-of-suc-le-suc, not-suc-le-zero, zero-lt-suc, zero-add, add-zero, add-suc, add-assoc, one-mul, mul-assoc, pow-suc}
 use native.Mathlib.Nat.{zero-div, zero-mod, zero-mul, div-one, mod-lt, mul-div-cancel, mul-mod-left, div-add-mod'}
 use native.Mathlib.Numerals.{one-add}
 use native.Mathlib.Omega.{arith}
+use native.Mathlib.Decide.{ℕ-discrete}
+use mathlib.Core.Logic.{by-cases}
+use borrow.Author.Tests.{eq-eqb, ne-eqb}
 use lib.Arith.{lt-one}
 use lib.Bits.{bitAnd, bitOr, bitXor, and-shr, and-mod, or-shr, or-mod, xor-shr, xor-mod}
 use lib.Count.{ones, ones-step}
@@ -145,6 +148,27 @@ pub count-within : (n : ℕ) {s t : Lines} → ((c : ℕ) → s c ≡ true → t
 unfolding countBelow
 count-within zero h = zero-le
 count-within (suc n) {s} {t} h = omega (arith, count-within n h, bit-within (s n) (t n) (h n))
+
+pub count-none : (n : ℕ) (s : Lines) → ((c : ℕ) → c < n → s c ≡ false) → countBelow n s ≡ 0
+unfolding countBelow
+count-none zero s h = refl
+count-none (suc n) s h = rw (count-none n s (λ c l. h c (omega arith)), h n (le-refl (suc n)))
+
+-- a set of one line at most
+pub count-one : (n d : ℕ) (s : Lines) → d < n → countBelow n (λ c. eqb c d && s c) ≡ bit (s d)
+unfolding countBelow
+count-one zero d s h = absurd (omega arith)
+count-one (suc n) d s h =
+    by-cases (ℕ-discrete n d)
+    (λ e. rw (count-none n (λ c. eqb c d && s c) (λ c l. rw (ne-eqb c d (λ f. omega arith))), eq-eqb n d e, e) (zero-add (bit (s d))))
+    (λ e. rw (count-one n d s (omega arith), ne-eqb n d e) (add-zero (bit (s d))))
+
+-- two sets have as many lines as two others where they do on each line
+pub count-sum : (n : ℕ) (q r s t : Lines) → ((c : ℕ) → bit (q c) + bit (r c) ≡ bit (s c) + bit (t c))
+    → countBelow n q + countBelow n r ≡ countBelow n s + countBelow n t
+unfolding countBelow
+count-sum zero q r s t h = refl
+count-sum (suc n) q r s t h = omega (arith, count-sum n q r s t h, h n)
 
 -- ---- numbers from digits
 

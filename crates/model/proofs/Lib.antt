@@ -7,4 +7,5 @@ pub mod Lists
 pub mod Order
 pub mod Regions
 pub mod Places
+pub mod Replay
 pub mod Cases

@@ -9,7 +9,7 @@ use lib.Seq.{take-add, take-suc, take-length, drop-cons, take-append-seam, drop-
 use Rattle.model.specs.Task.{Block, Task, blockCount}
 use Rattle.model.specs.Lines.{readsOf, blockAt}
 
-reads-append : (xs ys : List Block) → readsOf (xs ++ ys) ≡ readsOf xs ++ readsOf ys
+pub reads-append : (xs ys : List Block) → readsOf (xs ++ ys) ≡ readsOf xs ++ readsOf ys
 unfolding readsOf
 reads-append [] ys = refl
 reads-append (x ∷ xs) ys = ap (λ (l : List ℕ). x .reads ++ l) (reads-append xs ys) ∙ sym (append-assoc (x .reads) (readsOf xs) (readsOf ys))

@@ -1,15 +1,16 @@
--- Document 01's cases marked P as document 02 has changed them, two more of its rules on small tasks, document 02's first three items, and
+-- Document 01's cases marked P as document 02 has changed them, two more of its rules on small tasks, document 02's first four items, and
 -- document 004's appendix A. A case is a claim on a task; a claim about lists is one about every list. Assumes nothing.
 use Prim.Native.Nat.{ℕ, _<_}
 use mathlib.Core.Path.{_≡_}
-use mathlib.Core.Bool.{true, false, _&&_, _||_}
+use mathlib.Core.Bool.{true, _&&_}
 use mathlib.Core.List.{List, [], _∷_}
 use lib.Dec.{eqb}
-use Rattle.model.specs.Sets.{Lines}
+use Rattle.model.specs.Sets.{Lines, listed}
 use Rattle.model.specs.Task.{Block, Preempter, Task, blockCount}
 use Rattle.model.specs.Lines.{onLine, nextRead, readsLookedAt, asNext, useful, evicted}
 use Rattle.model.specs.Lists.{wellFormed, among}
 use Rattle.model.specs.Regions.{loaded, regionLength, lines, cost, fits, BestList, FirstBest, NoPlacementFits}
+use Rattle.model.specs.Replay.{missesAlone, missesWith}
 use Rattle.model.specs.Answers.{pricing, number, place}
 use Rattle.model.specs.Planning.{chosen, Planned}
 use Rattle.model.specs.declared.Next.{Next}
@@ -32,10 +33,7 @@ pub data Case : Type 0 where
   priced : Task → List ℕ → ℕ → ℕ → Case  -- a list's lines and cost
   refused : Task → List ℕ → ℕ → ℕ → Case  -- pricing refuses the list by this number at this place
   lineIs : Task → ℕ → ℕ → Case  -- the line of a number
-
-unfoldable pub listed : List ℕ → Lines
-listed [] c = false
-listed (d ∷ ds) c = eqb d c || listed ds c
+  replayed : Task → List ℕ → ℕ → ℕ → Case  -- the misses alone, and with these points
 
 -- the set is just these lines
 abbrev pub Are : Lines → List ℕ → Type 0
@@ -59,6 +57,7 @@ CaseHolds (noneFits t n i) = NoPlacementFits t × ((v : Verdict) (p : Plan) → 
 CaseHolds (priced t ps l p) = (pricing t ps ≡ Accepted) × (lines t ps ≡ l) × (cost t ps ≡ p)
 CaseHolds (refused t ps n i) = RefusedBy n i (pricing t ps)
 CaseHolds (lineIs t m c) = (d : ℕ) → onLine t d m ≡ eqb d c
+CaseHolds (replayed t ps a b) = (missesAlone t ≡ a) × (missesWith t ps ≡ b)
 
 abbrev pub block : ℕ → List ℕ → Block
 block time reads = record { time = time; reads = reads }
@@ -153,6 +152,10 @@ cases =
     lineIs (fileSeven 512 60) 300 300 ∷ lineIs (fileSeven 512 60) 512 0 ∷
     -- File Seven's H is {0, 1}
     evictedAre (fileSeven 4 60) (0 ∷ 1 ∷ []) ∷
+    -- File Seven's misses: 4 alone; after points 1, 2 number 0 misses in block 3, and after points 1, 2, 3 in block 4 too
+    replayed (fileSeven 4 60) [] 4 4 ∷ replayed (fileSeven 4 60) (1 ∷ 2 ∷ []) 4 5 ∷ replayed (fileSeven 4 60) (1 ∷ 2 ∷ 3 ∷ []) 4 6 ∷
+    -- task 1 of 004's appendix A: at points 2 and 4 it loses lines of H, and lines 2 and 4 stay
+    replayed appendixA (2 ∷ 4 ∷ []) 8 13 ∷
     -- a line that two regions reload counts twice
     loadedAre sameRead 1 2 (0 ∷ []) ∷ loadedAre sameRead 2 4 (0 ∷ []) ∷ priced sameRead (1 ∷ 2 ∷ []) 2 20 ∷
     -- document 02, item 3: interrupted just before its last read, a line is fetched again

@@ -1,6 +1,6 @@
 -- What documents 01 and 02 say of the definitions and no contract states. Each is proved in proofs/ under its name in small letters.
 -- Assumes nothing.
-use Prim.Native.Nat.{ℕ, _+_, _*_, _<_}
+use Prim.Native.Nat.{ℕ, _+_, _*_, _≤_, _<_}
 use mathlib.Core.Path.{_≡_}
 use mathlib.Core.Bool.{Bool, true, false}
 use mathlib.Core.Logic.{_⊎_}
@@ -11,6 +11,7 @@ use Rattle.model.specs.Task.{Task, blockCount}
 use Rattle.model.specs.Lines.{stateAfter, useful}
 use Rattle.model.specs.Lists.{wellFormed, before, FirstOfLeast, among, allLists}
 use Rattle.model.specs.Regions.{lines, cost}
+use Rattle.model.specs.Replay.{missesAlone, missesWith}
 use Rattle.model.specs.Planning.{Planned}
 use Rattle.model.specs.Cases.{Case, CaseHolds, cases}
 use Rattle.model.specs.declared.Line.the-variants.{Empty}
@@ -70,6 +71,12 @@ OneFirst =
 -- and one answer of planning at most is right for a task, verdict and plan
 abbrev pub OnePlan : Type 0
 OnePlan = (t : Task) (v w : Verdict) (p q : Plan) → Planned t v p → Planned t w q → (v ≡ w) × (p ≡ q)
+
+-- a replay with points misses once more for each of the list's lines, within the limit or not (document 02, item 4)
+abbrev pub AddedMisses : Type 0
+AddedMisses =
+    (t : Task) → 1 ≤ t .lineCount → t .lineCount ≤ 512 → (ps : List ℕ) → wellFormed (blockCount t) ps ≡ true
+    → missesWith t ps ≡ missesAlone t + lines t ps
 
 -- the cases marked P hold of the definitions, jointly
 abbrev pub CasesHold : Type 0

@@ -1,6 +1,6 @@
 -- Sets of cache lines (document 01, "Lines"). A set is a test of the line's number; its words and its size are defined from that test.
 -- Assumes nothing.
-use mathlib.Core.Bool.{Bool, true, false}
+use mathlib.Core.Bool.{Bool, true, false, _||_}
 use mathlib.Core.List.{List, [], _∷_}
 use Prim.Native.Nat.{ℕ, zero, suc, _+_, _*_, _/_, _%_, _^_}
 use lib.Dec.{eqb}
@@ -8,6 +8,11 @@ use lib.ListN.{getD}
 
 abbrev pub Lines : Type 0
 Lines = ℕ → Bool
+
+-- the set of the numbers in a list
+unfoldable pub listed : List ℕ → Lines
+listed [] c = false
+listed (d ∷ ds) c = eqb d c || listed ds c
 
 abbrev pub bit : Bool → ℕ
 bit true = 1

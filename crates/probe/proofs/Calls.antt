@@ -1,6 +1,6 @@
--- What the planner answers can be returned, since its places are at most 97, and what it found is stored as one list.
+-- What the public calls answer can be returned, since their places are at most 97, and what they found is stored as one list.
 -- Assumes nothing.
-use Prim.Native.Nat.{ℕ, _≤_}
+use Prim.Native.Nat.{ℕ, suc, _+_, _≤_}
 use mathlib.Core.Path.{_≡_, refl, sym, _∙_}
 use mathlib.Core.Bool.{Bool, true, false, cond, _&&_}
 use mathlib.Core.List.{List, [], _∷_, _++_, append-nil}
@@ -8,16 +8,22 @@ use native.Mathlib.Omega.{arith}
 use lib.Dec.{leb, ltb}
 use lib.ListN.{length, take, drop}
 use lib.Seq.{drop-length, take-all}
+use borrow.Author.Tests.{ltb-true}
 use Rattle.model.specs.Task.{blockCount}
+use Rattle.model.specs.Lists.{steps, lowest, rightPoint}
 use Rattle.model.specs.Answers.{verdictPlace, andThen, mostBlocks}
+use Rattle.model.specs.declared.Place.the-variants.{At}
 use Rattle.model.specs.declared.Refusal.the-variants.{Argument}
 use Rattle.model.specs.declared.Verdict.the-variants.{Accepted, Refused}
-use Rattle.model.proofs.Places.{then-most}
+use Rattle.model.proofs.Lists.{and-split}
+use Rattle.model.proofs.Places.{then-most, at-most}
 use Rattle.taskfile.specs.File.{verdict, taskOf}
+use Rattle.taskfile.proofs.Accepted.{few-blocks}
 use Rattle.taskfile.proofs.Places.{verdict-most}
 use Rattle.block.specs.Bytes.{le, les}
 use Rattle.planblock.proofs.Storing.{les-snoc, numbers-more}
 use Rattle.planner.specs.Calls.{edgeVerdict, regionVerdict}
+use Rattle.replays.specs.Calls.{replayVerdict}
 
 -- the file's refusal, or 7 at 0
 file-most : (file : List ℕ) (right : Bool) → verdictPlace (andThen (verdict file) (cond right Accepted (Refused (Argument 0)))) ≤ mostBlocks
@@ -35,6 +41,27 @@ pub region-most : (file : List ℕ) (a b : ℕ) → verdictPlace (regionVerdict 
 unfolding regionVerdict
 region-most file a b = file-most file (ltb a b && leb b (blockCount (taskOf file)))
 
+-- the points before a wrong one rise from a to below n
+wrong-within : (n a i k : ℕ) (ps : List ℕ) → a ≤ n → lowest (rightPoint n) i (steps a ps) ≡ At k → k + a ≤ i + n
+unfolding lowest steps
+wrong-within n a i k [] h e = let z : _≡_ {A = ℕ} 0 1 = cc in absurd (omega arith)
+wrong-within n a i k (p ∷ ps) h e = go (rightPoint n a p) refl e (wrong-within n p (suc i) k ps)
+  where
+    go : (b : Bool) → rightPoint n a p ≡ b → cond b (lowest (rightPoint n) (suc i) (steps p ps)) (At i) ≡ At k
+        → (p ≤ n → lowest (rightPoint n) (suc i) (steps p ps) ≡ At k → k + p ≤ suc i + n) → k + a ≤ i + n
+    go true right q ih =
+        let both = and-split (ltb a p) (ltb p n) right in
+        omega (arith, ltb-true a p (both .0), ih (omega (arith, ltb-true p n (both .1))) q)
+    go false right q ih = let s : i ≡ k = cc in omega arith
+
+pub replay-most : (file ps : List ℕ) → verdictPlace (replayVerdict file ps) ≤ mostBlocks
+unfolding replayVerdict
+replay-most file ps =
+    let n : ℕ = blockCount (taskOf file) in
+    then-most (verdict file) _ mostBlocks (verdict-most file)
+    (λ a. at-most (lowest (rightPoint n) 0 (steps 0 ps)) Argument Accepted mostBlocks
+    (λ k e. omega (arith, wrong-within n 0 0 k ps (omega arith) e, few-blocks file a)) (omega arith))
+
 -- the words, and the length behind them
 pub region-stored : (ws bs new : List ℕ) (v : ℕ) → length bs ≡ 72 → take 64 bs ≡ les 8 ws → new ≡ take 64 bs ++ le 8 v ++ drop 72 bs
     → new ≡ les 8 (ws ++ (v ∷ []))
@@ -48,3 +75,11 @@ numbers-stored a b c bs one two three l p q r long =
     sym (take-all 24 three (omega arith)) ∙
     numbers-more 8 16 (a ∷ b ∷ c ∷ []) two three [] 2 (omega arith)
     (numbers-more 8 8 (a ∷ b ∷ c ∷ []) one two [] 1 (omega arith) (numbers-more 8 0 (a ∷ b ∷ c ∷ []) bs one [] 0 (omega arith) (refl, refl) p) q) r .0
+
+-- and two
+pub two-stored : (a b : ℕ) (bs one two : List ℕ) → length bs ≡ 16 → one ≡ take 0 bs ++ le 8 a ++ drop 8 bs
+    → two ≡ take 8 one ++ le 8 b ++ drop 16 one → length two ≡ 16 → two ≡ les 8 (a ∷ b ∷ [])
+unfolding les
+two-stored a b bs one two l p q long =
+    sym (take-all 16 two (omega arith)) ∙
+    numbers-more 8 8 (a ∷ b ∷ []) one two [] 1 (omega arith) (numbers-more 8 0 (a ∷ b ∷ []) bs one [] 0 (omega arith) (refl, refl) p) q .0

@@ -13,6 +13,7 @@ use Rattle.model.specs.declared.Refusal.the-variants.{Output}
 use Rattle.model.specs.declared.Verdict.the-variants.{Refused}
 use Rattle.block.specs.Bytes.{les}
 use Rattle.planner.specs.Calls.{edgeVerdict, usefulWords, nextReadOf, lookedOf, regionVerdict, loadedWords, lengthOf}
+use Rattle.replays.specs.Calls.{replayVerdict, missesAloneOf, missesWithOf}
 
 -- the useful lines at edge k, in 64 bytes: the eight words of the set
 unfoldable pub usefulReturned : List ℕ → ℕ → List ℕ → ℕ
@@ -40,3 +41,11 @@ regionReturned file a b out = cond (eqb (length out) 72) (returned First (region
 unfoldable pub regionLeft : List ℕ → ℕ → ℕ → List ℕ → List ℕ
 regionLeft file a b out =
     cond (eqb (length out) 72) (onAccepted (regionVerdict file a b) (les 8 (loadedWords file a b ++ (lengthOf file a b ∷ []))) out) out
+
+-- the misses of the reads, alone and with the points, in 16 bytes
+unfoldable pub replayReturned : List ℕ → List ℕ → List ℕ → ℕ
+replayReturned file ps out = cond (eqb (length out) 16) (returned First (replayVerdict file ps)) (returned First (Refused Output))
+
+unfoldable pub replayLeft : List ℕ → List ℕ → List ℕ → List ℕ
+replayLeft file ps out =
+    cond (eqb (length out) 16) (onAccepted (replayVerdict file ps) (les 8 (missesAloneOf file ps ∷ missesWithOf file ps ∷ [])) out) out

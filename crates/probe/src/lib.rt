@@ -1,4 +1,5 @@
-// For tests: the useful lines of an edge, the next read of a line, and the loaded lines and the length of a region, through the planner's calls.
+// For tests: the useful lines of an edge, the next read of a line, the loaded lines and the length of a region, and the misses of a replay, through
+// the public calls.
 // A set is eight words of eight bytes, their lowest byte first, and other numbers have eight bytes too.
 ghost use mathlib.Core.List.{[], _∷_, _++_};
 ghost use mathlib.Core.Path.{_≡_};
@@ -6,7 +7,7 @@ ghost use Prim.Native.Nat.{_≤_};
 ghost use lib.ListN.{length, take};
 ghost use Rattle.model.specs.Answers.{onAccepted};
 ghost use Rattle.block.specs.Bytes.{les};
-ghost use Rattle.probe.specs.Calls.{usefulReturned, usefulLeft, nextReturned, nextLeft, nextNumbers, regionReturned, regionLeft};
+ghost use Rattle.probe.specs.Calls.{usefulReturned, usefulLeft, nextReturned, nextLeft, nextNumbers, regionReturned, regionLeft, replayReturned, replayLeft};
 use lineset::LineSet;
 use model::Input;
 use model::Next;
@@ -15,6 +16,7 @@ use model::Verdict;
 use planner::NextRead;
 use planner::RegionLines;
 use planner::UsefulLines;
+use replays::Misses;
 
 // The useful lines at edge k, in 64 bytes.
 #[no_mangle]
@@ -58,6 +60,21 @@ pub extern "C" fn probe_region(file: &[u8], a: usize, b: usize, out: &mut [u8]) 
     let found = planner::region(file, a, b);
     let verdict = found.verdict;
     keep_region(found, out);
+    answers::returned(Input::First, verdict)
+}
+
+// The misses of the file's reads, alone and with the points, in 16 bytes.
+#[no_mangle]
+pub extern "C" fn probe_replay(file: &[u8], points: &[u16], out: &mut [u8]) -> u32
+    ensures { λ r. ⌜ r ≡ replayReturned (now (file .entry)) (now (points .entry)) (now (out .entry)) ⌝ }
+    ensures { λ _. ⌜ now (out .exit) ≡ replayLeft (now (file .entry)) (now (points .entry)) (now (out .entry)) ⌝ }
+{
+    if out.len() != 16 {
+        return answers::returned(Input::First, Verdict::Refused(Refusal::Output));
+    }
+    let found = replays::replay(file, points);
+    let verdict = found.verdict;
+    keep_misses(found, out);
     answers::returned(Input::First, verdict)
 }
 
@@ -139,4 +156,25 @@ fn put_lines(lines: LineSet, out: &mut [u8])
         block::put_u64(out, 8 * w, lines.words[w]);
         w += 1;
     }
+}
+
+// Leaves accepted misses in the bytes.
+fn keep_misses(misses: Misses, out: &mut [u8])
+    requires { ⌜ length (now out) ≡ 16 ⌝ }
+    ensures { λ _. ⌜ now (out .exit) ≡ onAccepted (misses .verdict) (les 8 (misses .alone ∷ misses .preempted ∷ [])) (now (out .entry)) ⌝ }
+{
+    let verdict = misses.verdict;
+    match verdict {
+        Verdict::Accepted => put_misses(misses, out),
+        Verdict::Refused(_) => {}
+    }
+}
+
+// Stores the misses alone and then those with the points.
+fn put_misses(misses: Misses, out: &mut [u8])
+    requires { ⌜ length (now out) ≡ 16 ⌝ }
+    ensures { λ _. ⌜ now (out .exit) ≡ les 8 (misses .alone ∷ misses .preempted ∷ []) ⌝ }
+{
+    block::put_u64(out, 0, misses.alone as u64);
+    block::put_u64(out, 8, misses.preempted as u64);
 }

@@ -24,8 +24,8 @@ def block(number, start):
     return sealed(start.ljust(504, b"\0") + struct.pack("<I", number) + bytes(4))
 
 
-def header(n, m, s, q, r, ident):
-    return block(0, struct.pack("<BBHHHIII", 1, 0, n, m, s, q, r, ident))
+def header(n, m, s, q, r, ident, first=0, count=0):
+    return block(0, struct.pack("<BBHHHIIIII", 1, 0, n, m, s, q, r, ident, first, count))
 
 
 def entry(kind, number, value, reads):
@@ -33,17 +33,25 @@ def entry(kind, number, value, reads):
 
 
 class Task:
-    def __init__(self, s, q, r, ident, blocks, preempters):
+    def __init__(self, s, q, r, ident, blocks, preempters, first=0, count=0):
         self.s, self.q, self.r, self.ident = s, q, r, ident
+        self.first, self.count = first, count  # the memory blocks that bypass the cache
         self.blocks = blocks  # pairs of a time and the numbers read
         self.preempters = preempters  # pairs of an id and the numbers read
         self.n = len(blocks)
-        self.evicted = {m % s for _, reads in preempters for m in reads}
+        self.evicted = set().union(*(self.lines(reads) for _, reads in preempters))
         self.useful = [self.useful_at(k) for k in range(self.n + 1)]
-        self.accessed = [set()] + [{m % s for m in reads} for _, reads in blocks]  # T(k), with an empty T(0) before
+        self.accessed = [set()] + [self.lines(reads) for _, reads in blocks]  # T(k), with an empty T(0) before
+
+    def cached(self, reads):
+        """The numbers that have a line."""
+        return [m for m in reads if not self.first <= m < self.first + self.count]
+
+    def lines(self, reads):
+        return {m % self.s for m in self.cached(reads)}
 
     def file(self):
-        b = header(self.n, len(self.preempters), self.s, self.q, self.r, self.ident)
+        b = header(self.n, len(self.preempters), self.s, self.q, self.r, self.ident, self.first, self.count)
         for i, (time, reads) in enumerate(self.blocks):
             b += entry(2, 1 + i, time, reads)
         for i, (ident, reads) in enumerate(self.preempters):
@@ -54,10 +62,10 @@ class Task:
         """U(k)."""
         held, first = {}, {}
         for _, reads in self.blocks[:k]:
-            for m in reads:
+            for m in self.cached(reads):
                 held[m % self.s] = m
         for _, reads in self.blocks[k:]:
-            for m in reads:
+            for m in self.cached(reads):
                 first.setdefault(m % self.s, m)
         return {c for c in held if first.get(c) == held[c]}
 
@@ -97,9 +105,9 @@ class Task:
         return least[0][1] if 0 in least else None
 
 
-def seven(q, blocks=None):
+def seven(q, blocks=None, first=0, count=0):
     blocks = blocks or [(20, [0, 1]), (20, [2]), (20, [0]), (20, [5, 0])]
-    return Task(4, q, 10, 7, blocks, [(1, [4, 1])])
+    return Task(4, q, 10, 7, blocks, [(1, [4, 1])], first, count)
 
 
 # A file as the document has it, but that one or more bytes are changed: (block, position) to value.
@@ -120,6 +128,11 @@ def empty_entries(n, m):
 
 def small_header(n, m, s):
     return header(n, m, s, 60, 10, 7)
+
+
+def scratch(first, count):
+    """File Seven with this range."""
+    return seven(60, None, first, count).file()
 
 
 def largest_task():
@@ -169,7 +182,7 @@ def taskfile_cases():
         ("header-number", bad({(0, 504): 1}), "refused 3 at 0"),
         ("header-number-high", bad({(0, 507): 1}), "refused 3 at 0"),
         ("header-byte-1", bad({(0, 1): 1}), "refused 3 at 0"),
-        ("header-byte-20", bad({(0, 20): 1}), "refused 3 at 0"),
+        ("header-byte-28", bad({(0, 28): 1}), "refused 3 at 0"),
         ("header-byte-503", bad({(0, 503): 1}), "refused 3 at 0"),
         ("n-0", small_header(0, 1, 4) + empty_entries(0, 1), "refused 3 at 0"),
         ("n-65", small_header(65, 0, 4) + empty_entries(65, 0), "refused 3 at 0"),
@@ -177,6 +190,18 @@ def taskfile_cases():
         ("m-33", small_header(1, 33, 4) + empty_entries(1, 33), "refused 3 at 0"),
         ("s-0", small_header(1, 0, 0) + empty_entries(1, 0), "refused 3 at 0"),
         ("s-513", small_header(1, 0, 513) + empty_entries(1, 0), "refused 3 at 0"),
+        # the scratch range: each byte of its first number and of its count, and the sums
+        *((f"header-byte-{at}", bad({(0, at): 255}), good) for at in range(20, 28)),
+        ("scratch-first-largest", scratch(MOST, 0), good),
+        ("scratch-count-largest", scratch(0, MOST), good),
+        ("scratch-first-to-2-32", scratch(MOST, 1), good),
+        ("scratch-count-to-2-32", scratch(1, MOST), good),
+        ("scratch-halves-to-2-32", scratch(2**31, 2**31), good),
+        ("scratch-first-beyond", scratch(MOST, 2), "refused 3 at 0"),
+        ("scratch-count-beyond", scratch(2, MOST), "refused 3 at 0"),
+        ("scratch-halves-beyond", scratch(2**31, 2**31 + 1), "refused 3 at 0"),
+        ("scratch-largest", scratch(MOST, MOST), "refused 3 at 0"),
+        ("scratch-beyond-and-count", scratch(MOST, 2)[: 5 * 512], "refused 3 at 0"),
         # the ends of the ranges
         ("n-1-m-0-s-1", small_header(1, 0, 1) + empty_entries(1, 0), good),
         # the count of blocks
@@ -209,7 +234,7 @@ def taskfile_cases():
         ("blocks-swapped", f[:512] + f[1024:1536] + f[512:1024] + f[1536:], "refused 5 at 1"),
         ("header-and-sum-4", damaged(bad({(0, 0): 2}), {(4, 4): 1}, seal=False), "refused 2 at 4"),
         ("header-and-count", bad({(0, 1): 1})[: 5 * 512], "refused 3 at 0"),
-        ("header-and-block-1", bad({(0, 20): 1, (1, 1): 1}), "refused 3 at 0"),
+        ("header-and-block-1", bad({(0, 28): 1, (1, 1): 1}), "refused 3 at 0"),
         ("count-and-block-2", bad({(2, 0): 9})[: 5 * 512], "refused 4 at 0"),
         ("count-and-sum-2", unsealed({(2, 8): 77})[: 5 * 512], "refused 2 at 2"),
         ("block-1-and-sum-5", damaged(bad({(1, 0): 3}), {(5, 9): 1}, seal=False), "refused 2 at 5"),
@@ -231,12 +256,15 @@ def planner_tasks():
         ("seven-40", seven(40)),
         ("seven-30", seven(30)),
         ("seven-29", seven(29)),
+        ("seven-scratch", seven(60, first=0, count=1)),  # number 0 bypasses the cache
+        ("seven-scratch-4", seven(60, first=4, count=1)),  # 4 does, which the preempter reads
         ("one-60", seven(60, lone)),
         ("one-59", seven(59, lone)),
         ("last-read", seven(40, [(20, [0]), (20, [2]), (20, [0])])),  # the last read of line 0 is its only reload
         ("same-read", seven(60, [(20, [0])] * 4)),  # regions (1, 2), (2, 3) and (3, 4) reload line 0
         ("high-70", Task(512, 70, 10, 3, high, preempters)),
         ("high-45", Task(512, 45, 10, 3, high, preempters)),
+        ("high-scratch", Task(512, 45, 10, 3, high, preempters, 300, 213)),  # 300 and 512 are the ends of the range
         ("wide", Task(512, MOST, MOST, MOST, wide, [(0, [1])])),
         ("largest", largest_task()),
     ]

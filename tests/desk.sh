@@ -81,6 +81,16 @@ prints $seven-29 'misses 4 with points 6' replay 1 2 3
 prints $seven-60 'refused 7 at 1' replay 2 2
 prints $seven-60 'refused 7 at 0' replay 4
 
+# number 0 of File Seven bypasses the cache: a search looks at it and goes on, a replay counts it as neither hit nor miss
+prints $seven-scratch 'task 7 blocks 4 points 1 lines 0 cost 0
+region 0 1 length 20
+region 1 4 length 60' plan
+prints $seven-scratch 'none looked 4' next_read 0 1
+prints $seven-scratch 'read 5 looked 3' next_read 1 1
+prints $seven-scratch 'lines' useful 1
+prints $seven-scratch 'misses 3 with points 3' replay 1 2 3
+prints $damaged/scratch-first-beyond 'refused 3 at 0' plan
+
 # the file's refusals come before those of the list
 prints /dev/null 'refused 1 at 0' price 2 2
 prints $damaged/sum-block-3 'refused 2 at 3' price 2 2

@@ -1,5 +1,5 @@
-//! One word per line instead, with a bit for every edge: no branch in the walk, and a line that is
-//! useful at a joins the stretches from a at the first block after a that reads it.
+//! One word per line instead, with a bit for every edge: no branch in the walk but that of the range,
+//! and a line that is useful at a joins the stretches from a at the first block after a that reads it.
 
 use crate::fast::{numbers, Method, Task, MOST_BASIC};
 use std::hint::select_unpredictable;
@@ -39,7 +39,8 @@ impl Method for ByLine {
             // Bits 0 to k - 1, and bit k - 1.
             let own = below ^ below >> 1;
             for m in numbers(block) {
-                let line = &mut lines[task.lines.of(m)];
+                let Some(c) = task.lines.of(m) else { continue };
+                let line = &mut lines[c];
                 let since = below & !line.below;
                 line.useful |= select_unpredictable(line.held == m, since, 0);
                 line.accessed |= own;
@@ -49,8 +50,8 @@ impl Method for ByLine {
             below |= below << 1;
         }
         for block in task.interrupters() {
-            for m in numbers(block) {
-                lines[task.lines.of(m)].struck = true;
+            for c in numbers(block).filter_map(|m| task.lines.of(m)) {
+                lines[c].struck = true;
             }
         }
         let mut answer = ByLine {

@@ -23,25 +23,32 @@ pub fn code(number: u32, place: usize) -> u32 {
     number << 16 | place as u32
 }
 
-/// m mod S by one reciprocal.
+/// m mod S by one reciprocal; no line in the range, which one comparison tells.
 #[derive(Clone, Copy)]
 pub struct Lines {
     s: u64,
     reciprocal: u64,
+    first: u32,
+    count: u32,
 }
 
 impl Lines {
-    fn new(s: usize) -> Lines {
+    fn new(s: usize, (first, count): (u32, u32)) -> Lines {
         let s = s as u64;
         Lines {
             s,
             reciprocal: (u64::MAX / s).wrapping_add(1),
+            first,
+            count,
         }
     }
 
-    pub fn of(self, m: u32) -> usize {
+    pub fn of(self, m: u32) -> Option<usize> {
+        if m.wrapping_sub(self.first) < self.count {
+            return None;
+        }
         let part = self.reciprocal.wrapping_mul(m as u64);
-        ((part as u128 * self.s as u128) >> 64) as usize & 511
+        Some(((part as u128 * self.s as u128) >> 64) as usize & 511)
     }
 }
 
@@ -95,6 +102,7 @@ pub fn open(file: &[u8]) -> Result<Task<'_>, u32> {
     }
     let (header, rest) = file.split_at(BLOCK);
     let (n, m, s) = (get16(header, 2), get16(header, 4), get16(header, 6));
+    let scratch = (get32(header, 20), get32(header, 24));
     if header[0] != 1
         || header[1] != 0
         || n == 0
@@ -102,7 +110,8 @@ pub fn open(file: &[u8]) -> Result<Task<'_>, u32> {
         || m > 32
         || s == 0
         || s > 512
-        || !all_zero(&header[20..508])
+        || scratch.0 as u64 + scratch.1 as u64 > 1 << 32
+        || !all_zero(&header[28..508])
     {
         return Err(code(3, 0));
     }
@@ -124,7 +133,7 @@ pub fn open(file: &[u8]) -> Result<Task<'_>, u32> {
     let (blocks, interrupters) = rest.split_at(n * BLOCK);
     Ok(Task {
         n,
-        lines: Lines::new(s),
+        lines: Lines::new(s, scratch),
         limit: get32(header, 8) as u64,
         reload: get32(header, 12) as u64,
         id: get32(header, 16),

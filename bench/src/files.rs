@@ -10,6 +10,8 @@ pub struct Shape {
     pub s: usize,
     pub r: usize,
     pub limit: u32,
+    /// The first memory block that bypasses the cache, and how many do.
+    pub scratch: (u32, u32),
 }
 
 struct Rng(u64);
@@ -34,15 +36,17 @@ fn seal(block: &mut [u8], number: usize) {
     put(block, 508, &check.to_le_bytes());
 }
 
-fn header(n: usize, m: usize, s: usize, limit: u32, reload: u32, id: u32) -> Vec<u8> {
+fn header(shape: &Shape, id: u32) -> Vec<u8> {
     let mut block = vec![0; BLOCK];
     block[0] = 1;
-    put(&mut block, 2, &(n as u16).to_le_bytes());
-    put(&mut block, 4, &(m as u16).to_le_bytes());
-    put(&mut block, 6, &(s as u16).to_le_bytes());
-    put(&mut block, 8, &limit.to_le_bytes());
-    put(&mut block, 12, &reload.to_le_bytes());
+    put(&mut block, 2, &(shape.n as u16).to_le_bytes());
+    put(&mut block, 4, &(shape.m as u16).to_le_bytes());
+    put(&mut block, 6, &(shape.s as u16).to_le_bytes());
+    put(&mut block, 8, &shape.limit.to_le_bytes());
+    put(&mut block, 12, &10u32.to_le_bytes());
     put(&mut block, 16, &id.to_le_bytes());
+    put(&mut block, 20, &shape.scratch.0.to_le_bytes());
+    put(&mut block, 24, &shape.scratch.1.to_le_bytes());
     seal(&mut block, 0);
     block
 }
@@ -60,7 +64,15 @@ fn reads(file: &mut Vec<u8>, kind: u8, word: u32, numbers: &[u32]) {
 }
 
 pub fn seven() -> Vec<u8> {
-    let mut file = header(4, 1, 4, 60, 10, 7);
+    let shape = Shape {
+        n: 4,
+        m: 1,
+        s: 4,
+        r: 2,
+        limit: 60,
+        scratch: (0, 0),
+    };
+    let mut file = header(&shape, 7);
     for numbers in [&[0, 1][..], &[2], &[0], &[5, 0]] {
         reads(&mut file, 2, 20, numbers);
     }
@@ -80,7 +92,7 @@ pub enum Again {
 pub fn reread(shape: &Shape, first: usize, again: Again) -> Vec<u8> {
     let (n, r) = (shape.n, shape.r);
     let held = first * r;
-    let mut file = header(n, shape.m, shape.s, shape.limit, 10, 64);
+    let mut file = header(shape, 64);
     for i in 0..n + shape.m {
         let same = match again {
             _ if i < first => true,
@@ -102,7 +114,7 @@ pub fn reread(shape: &Shape, first: usize, again: Again) -> Vec<u8> {
 /// Two numbers per line, every line as likely as the others.
 pub fn drawn(shape: &Shape) -> Vec<u8> {
     let mut rng = Rng(1);
-    let mut file = header(shape.n, shape.m, shape.s, shape.limit, 10, 64);
+    let mut file = header(shape, 64);
     for i in 0..shape.n + shape.m {
         let numbers: Vec<u32> = (0..shape.r)
             .map(|_| rng.below(shape.s as u32) + shape.s as u32 * rng.below(2))

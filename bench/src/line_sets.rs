@@ -34,7 +34,7 @@ impl Method for LineSets {
         for (i, block) in task.blocks().enumerate() {
             let k = i + 1;
             for m in numbers(block) {
-                let c = task.lines.of(m);
+                let Some(c) = task.lines.of(m) else { continue };
                 let word = c / 64;
                 let before = last[c] as usize;
                 let again = ((before != 0) & (held[c] == m)) as u64;
@@ -47,8 +47,7 @@ impl Method for LineSets {
         }
         let mut struck = [0u64; 8];
         for block in task.interrupters() {
-            for m in numbers(block) {
-                let c = task.lines.of(m);
+            for c in numbers(block).filter_map(|m| task.lines.of(m)) {
                 struck[c / 64] |= 1 << (c % 64);
             }
         }

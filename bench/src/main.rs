@@ -333,12 +333,20 @@ fn main() {
         s: 512,
         r: 124,
         limit: 5000,
+        scratch: (0, 0),
     };
     row("largest file", &drawn(&largest));
     row(
         "largest file, Q without limit",
         &drawn(&Shape {
             limit: u32::MAX,
+            ..largest
+        }),
+    );
+    row(
+        "largest file, half of its numbers bypass the cache",
+        &drawn(&Shape {
+            scratch: (512, 512),
             ..largest
         }),
     );
@@ -370,6 +378,7 @@ fn main() {
             s: 512,
             r,
             limit: u32::MAX,
+            scratch: (0, 0),
         })
     };
     for n in [8, 16, 32, 64] {

@@ -6,7 +6,9 @@ fn struck_lines(task: &Task) -> [bool; 512] {
     let mut struck = [false; 512];
     for block in task.interrupters() {
         for m in numbers(block) {
-            struck[task.lines.of(m)] = true;
+            if let Some(c) = task.lines.of(m) {
+                struck[c] = true;
+            }
         }
     }
     struck
@@ -23,7 +25,9 @@ fn by_one_walk(task: &Task, points: &[u16]) -> [u64; 2] {
     let mut rest = points;
     for (k, block) in (1usize..).zip(task.blocks()) {
         for m in numbers(block) {
-            let c = task.lines.of(m);
+            let Some(c) = task.lines.of(m) else {
+                continue;
+            };
             let hit = held[c] == Some(m);
             let lost = struck[c] & (since[c] <= last);
             alone += !hit as u64;
@@ -47,7 +51,9 @@ fn by_two_caches(task: &Task, points: &[u16]) -> [u64; 2] {
     let mut rest = points;
     for (k, block) in (1usize..).zip(task.blocks()) {
         for m in numbers(block) {
-            let c = task.lines.of(m);
+            let Some(c) = task.lines.of(m) else {
+                continue;
+            };
             for (cache, count) in caches.iter_mut().zip(&mut misses) {
                 *count += (cache[c] != Some(m)) as u64;
                 cache[c] = Some(m);

@@ -8,7 +8,7 @@ fn search(task: &Task, line: usize, k: usize) -> (Option<u32>, usize) {
     for block in task.blocks().skip(k) {
         for m in numbers(block) {
             looked += 1;
-            if task.lines.of(m) == line {
+            if task.lines.of(m) == Some(line) {
                 return (Some(m), looked);
             }
         }
@@ -21,7 +21,9 @@ fn held_after(task: &Task, k: usize) -> [Option<u32>; 512] {
     let mut held = [None; 512];
     for block in task.blocks().take(k) {
         for m in numbers(block) {
-            held[task.lines.of(m)] = Some(m);
+            if let Some(c) = task.lines.of(m) {
+                held[c] = Some(m);
+            }
         }
     }
     held
@@ -46,7 +48,7 @@ fn useful_by_walk(task: &Task, k: usize) -> [u64; 8] {
     let mut open = held.iter().flatten().count();
     for block in task.blocks().skip(k) {
         for m in numbers(block) {
-            let c = task.lines.of(m);
+            let Some(c) = task.lines.of(m) else { continue };
             if let Some(number) = held[c].take() {
                 words[c / 64] |= ((number == m) as u64) << (c % 64);
                 open -= 1;

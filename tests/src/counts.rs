@@ -2,7 +2,7 @@
 
 pub struct Counts(Vec<(String, u64)>);
 
-const SHAPES: [&str; 47] = [
+const SHAPES: [&str; 59] = [
     "2 above block 0",
     "5 in a basic block",
     "5 in an interrupter",
@@ -46,6 +46,18 @@ const SHAPES: [&str; 47] = [
     "points add no miss",
     "a read hits alone",
     "list above 63 points",
+    "range of numbers",
+    "range of one number",
+    "empty, first above 0",
+    "range up to 2^32",
+    "first of the range",
+    "last of the range",
+    "all reads in a range",
+    "strikes in a range",
+    "fewer lines struck",
+    "search past a range",
+    "3 by the range alone",
+    "range, price > 0",
     "file of 97 blocks",
     "end-aligned file",
     "start-aligned file",

@@ -1,6 +1,8 @@
 //! Task files and plan blocks: the document's own, random ones, and damaged ones.
 
-use crate::reference::{field, plan_block, put, seal, Model, Reads, Task, BLOCK, MOST_BLOCKS};
+use crate::reference::{
+    field, plan_block, put, seal, Model, Reads, Scratch, Task, BLOCK, MOST_BLOCKS,
+};
 use crate::rng::Rng;
 
 pub fn file_of(task: &Task) -> Vec<u8> {
@@ -13,6 +15,8 @@ pub fn file_of(task: &Task) -> Vec<u8> {
     put(&mut header, 8, 4, task.limit as u64);
     put(&mut header, 12, 4, task.reload as u64);
     put(&mut header, 16, 4, task.id as u64);
+    put(&mut header, 20, 4, task.scratch.first as u64);
+    put(&mut header, 24, 4, task.scratch.count as u64);
     seal(&mut header);
     file.extend(header);
     for (kind, reads) in [(2, &task.blocks), (3, &task.interrupters)] {
@@ -51,6 +55,7 @@ pub fn seven(limit: u32) -> Task {
         limit,
         reload: 10,
         id: 7,
+        scratch: Scratch::NONE,
         blocks: vec![
             reads(20, &[0, 1]),
             reads(20, &[2]),
@@ -75,6 +80,7 @@ pub fn largest() -> Task {
         limit: 5000,
         reload: 10,
         id: 64,
+        scratch: Scratch::NONE,
         blocks: (0..64).map(|i| block(100 + i)).collect(),
         interrupters: (0..32).map(&mut block).collect(),
     }
@@ -310,17 +316,68 @@ pub fn random_task(rng: &mut Rng) -> Task {
         6..=12 => base,
         _ => rng.between(1, 20) as u32,
     };
+    let scratch = random_scratch(rng, &blocks, &interrupters);
     let mut task = Task {
         lines: s,
         limit: 0,
         reload,
         id: any_word(rng),
+        scratch,
         blocks,
         interrupters,
     };
     let model = Model::new(task.clone());
     task.limit = random_limit(rng, &model);
     task
+}
+
+/// The numbers from first on and before end, or up to the last number that a range can have.
+fn scratch_to(first: u32, end: u64) -> Scratch {
+    let count = end.saturating_sub(first as u64).min(u32::MAX as u64) as u32;
+    Scratch { first, count }
+}
+
+/// Mostly no range; else an empty one, one number, all numbers up to the last, all but one, or
+/// numbers around those that the file reads.
+fn random_scratch(rng: &mut Rng, blocks: &[Reads], interrupters: &[Reads]) -> Scratch {
+    let of =
+        |blocks: &[Reads]| -> Vec<u32> { blocks.iter().flat_map(|b| b.numbers.clone()).collect() };
+    let (mut read, struck) = (of(blocks), of(interrupters));
+    if rng.percent(40) || read.is_empty() {
+        read = struck;
+    }
+    let mut used = || {
+        if read.is_empty() {
+            any_word(rng)
+        } else {
+            rng.pick(&read)
+        }
+    };
+    let (one, other) = (used(), used());
+    let (low, high) = (one.min(other), one.max(other) as u64);
+    match rng.below(20) {
+        0 => Scratch {
+            first: any_word(rng),
+            count: 0,
+        },
+        1 => scratch_to(one, one as u64 + 1),
+        2 => scratch_to(any_word(rng), 1 << 32),
+        3 => scratch_to(one.max(1), 1 << 32),
+        4 => scratch_to(rng.below(2) as u32, 1 << 32),
+        5 => scratch_to(0, high + 1),
+        6..=7 => scratch_to(
+            low.saturating_add(rng.below(2) as u32),
+            high + rng.below(2) as u64,
+        ),
+        8 => {
+            let first = one.saturating_sub(rng.below(4) as u32);
+            scratch_to(
+                first,
+                (first as u64 + rng.between(1, 5) as u64).min(1 << 32),
+            )
+        }
+        _ => Scratch::NONE,
+    }
 }
 
 /// Q: at its ends, at a stretch's length and beside it, or near the least that lets a list fit.
@@ -534,7 +591,7 @@ fn damage_header(rng: &mut Rng, header: &mut [u8]) -> String {
         field(header, 4, 2),
         field(header, 6, 2),
     );
-    let said = match rng.below(9) {
+    let said = match rng.below(11) {
         0 => {
             header[0] = rng.pick(&[0, 2, 3, 4, 5, 129, 255]);
             format!("header kind {}", header[0])
@@ -586,7 +643,7 @@ fn damage_header(rng: &mut Rng, header: &mut [u8]) -> String {
             format!("S {s}")
         }
         6 => {
-            let at = rng.pick(&[20, 21, 22, 503, 502]);
+            let at = rng.pick(&[20, 21, 22, 23, 24, 25, 26, 27, 28, 28, 29, 30, 31, 503, 502]);
             header[at] = other_byte(rng, header[at]);
             format!("header byte {at}")
         }
@@ -594,6 +651,16 @@ fn damage_header(rng: &mut Rng, header: &mut [u8]) -> String {
             let at = rng.between(20, 503);
             header[at] = other_byte(rng, header[at]);
             format!("header byte {at}")
+        }
+        8 | 9 => {
+            let most = u32::MAX as u64;
+            let any = rng.word() as u64;
+            let first = rng.pick(&[1, 2, 1 << 31, most - 1, most, any]);
+            let past = rng.pick(&[0, 0, 1, 1, 2, 1 << 31, most]);
+            let count = ((1 << 32) + past - first).min(most);
+            put(header, 20, 4, first);
+            put(header, 24, 4, count);
+            format!("range of {count} from {first}")
         }
         _ => {
             let number = wrong_number(rng, 0);

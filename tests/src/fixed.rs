@@ -6,7 +6,7 @@ use crate::files::{file_of, largest, reads, seven};
 use crate::pages::Side;
 use crate::reference::{
     empty_set, fnv1a, next_read, plan_block, points_in, put, replay, seal, set_bytes, Call, Found,
-    Misses, Reference, Task, BLOCK,
+    Misses, Reference, Scratch, Task, BLOCK,
 };
 use crate::rng::Rng;
 use crate::watch;
@@ -123,6 +123,7 @@ fn one_block(time: u32, limit: u32) -> Task {
         limit,
         reload: 10,
         id: 1,
+        scratch: Scratch::NONE,
         blocks: vec![reads(time, &[0])],
         interrupters: Vec::new(),
     }
@@ -248,6 +249,8 @@ pub fn run(driver: &mut Driver) -> Result<(), String> {
     f.next(300, 1, Some(300), 2)?;
     f.next(44, 1, None, 4)?;
 
+    scratch(&mut f)?;
+
     let most = largest();
     f.task("the largest file", &most);
     f.plans_something()?;
@@ -286,6 +289,75 @@ pub fn run(driver: &mut Driver) -> Result<(), String> {
     f.refused(&Call::Plan, 1, 0)?;
 
     changed_bits(&mut f)
+}
+
+fn seven_with(first: u32, count: u32) -> Task {
+    Task {
+        scratch: Scratch { first, count },
+        ..seven(60)
+    }
+}
+
+/// A range of memory blocks that bypass the cache.
+fn scratch(f: &mut Fixed) -> Result<(), String> {
+    f.task("File Seven, 0 bypasses the cache", &seven_with(0, 1));
+    for k in 0..=4 {
+        f.set(&Call::Useful(k), &[])?;
+    }
+    f.next(0, 1, None, 4)?;
+    f.next(1, 1, Some(5), 3)?;
+    f.next(1, 0, Some(1), 2)?;
+    f.set(&Call::Region(1, 4), &[])?;
+    f.planned(&[1], 0)?;
+    f.task("File Seven, 4 and no read bypasses", &seven_with(4, 1));
+    f.set(&Call::Useful(1), &[0])?;
+    f.set(&Call::Region(1, 4), &[])?;
+    f.task("File Seven, 1 and 2 bypass", &seven_with(1, 2));
+    f.set(&Call::Useful(1), &[0])?;
+    f.set(&Call::Region(1, 4), &[0])?;
+    f.next(1, 0, Some(5), 5)?;
+    f.next(2, 0, None, 6)?;
+    f.task("File Seven, an empty range", &seven_with(0, 0));
+    f.planned(&[1, 2], 10)?;
+    for (first, count) in [(1, 0), (0, u32::MAX), (1, u32::MAX), (u32::MAX, 0)] {
+        f.task(&format!("{count} from {first}"), &seven_with(first, count));
+        f.plans_something()?;
+    }
+
+    // The last number that there is, alone in a range and beside one.
+    let mut task = seven_with(u32::MAX, 1);
+    task.lines = 512;
+    task.blocks = vec![
+        reads(20, &[u32::MAX, u32::MAX - 1]),
+        reads(20, &[u32::MAX, u32::MAX - 1]),
+    ];
+    task.interrupters = vec![reads(0, &[510, 511])];
+    task.limit = 30;
+    f.task("4294967295 bypasses", &task);
+    f.set(&Call::Useful(1), &[510])?;
+    f.next(511, 0, None, 4)?;
+    f.planned(&[1], 10)?;
+    task.scratch = Scratch {
+        first: u32::MAX - 1,
+        count: 1,
+    };
+    f.task("4294967294 bypasses", &task);
+    f.set(&Call::Useful(1), &[511])?;
+    task.scratch.count = 2;
+    f.task("both bypass", &task);
+    f.set(&Call::Useful(1), &[])?;
+    f.planned(&[1], 0)?;
+
+    for (first, count) in [
+        (u32::MAX, 2),
+        (2, u32::MAX),
+        (1 << 31, (1 << 31) + 1),
+        (u32::MAX, u32::MAX),
+    ] {
+        f.task(&format!("{count} from {first}"), &seven_with(first, count));
+        f.refused(&Call::Plan, 3, 0)?;
+    }
+    Ok(())
 }
 
 fn changed_bits(f: &mut Fixed) -> Result<(), String> {

@@ -18,7 +18,7 @@ mod watch;
 use counts::Counts;
 use driver::{random_side, Driver, Outcome};
 use pages::Side;
-use reference::{Call, Model, Reference, Task, BLOCK, MOST_BLOCKS};
+use reference::{Call, Model, Reads, Reference, Task, BLOCK, MOST_BLOCKS};
 use rng::Rng;
 use std::process::ExitCode;
 
@@ -230,6 +230,10 @@ fn run_case(
         );
     }
     let accepted = reference.model.is_some();
+    match &reference.model {
+        Some(model) => count_scratch(counts, model),
+        None => counts.add_if(ranged_too_far(&file), "3 by the range alone"),
+    }
     let named = if file.len() >= BLOCK {
         reference::field(&file, 2, 2) as usize
     } else {
@@ -339,6 +343,42 @@ fn count_replay(counts: &mut Counts, model: &Model, points: &[usize]) {
     counts.add_if(misses.alone < reads as u64, "a read hits alone");
 }
 
+/// Whether a header is refused that isn't with the same bytes and no range.
+fn ranged_too_far(file: &[u8]) -> bool {
+    let is_3 = |file: &[u8]| reference::file_refusal(file).is_some_and(|r| r.number == 3);
+    if !is_3(file) {
+        return false;
+    }
+    let mut without = file.to_vec();
+    without[20..28].fill(0);
+    reference::seal(&mut without[..BLOCK]);
+    !is_3(&without)
+}
+
+fn count_scratch(counts: &mut Counts, model: &Model) {
+    let task = &model.task;
+    let scratch = task.scratch;
+    let numbers =
+        |blocks: &[Reads]| -> Vec<u32> { blocks.iter().flat_map(|b| b.numbers.clone()).collect() };
+    let (read, struck) = (numbers(&task.blocks), numbers(&task.interrupters));
+    let (some, end) = (scratch.count > 0, scratch.end());
+    counts.add_if(some, "range of numbers");
+    counts.add_if(scratch.count == 1, "range of one number");
+    counts.add_if(!some && scratch.first > 0, "empty, first above 0");
+    counts.add_if(some && end == 1 << 32, "range up to 2^32");
+    counts.add_if(some && read.contains(&scratch.first), "first of the range");
+    counts.add_if(
+        some && read.iter().any(|&m| m as u64 + 1 == end),
+        "last of the range",
+    );
+    counts.add_if(
+        !read.is_empty() && read.iter().all(|&m| scratch.has(m)),
+        "all reads in a range",
+    );
+    counts.add_if(struck.iter().any(|&m| scratch.has(m)), "strikes in a range");
+    counts.add_if(model.strikes_fewer(), "fewer lines struck");
+}
+
 fn count_search(counts: &mut Counts, task: &Task, line: usize, k: usize) {
     let found = reference::next_read(task, line, k);
     let near = task.blocks.get(k).map_or(0, |block| block.numbers.len());
@@ -360,6 +400,11 @@ fn count_search(counts: &mut Counts, task: &Task, line: usize, k: usize) {
         "no next read",
     );
     counts.add_if(found.looked == 0, "no read after block k");
+    let ahead = task.blocks[k..].iter().flat_map(|block| &block.numbers);
+    counts.add_if(
+        ahead.take(found.looked).any(|&m| task.scratch.has(m)),
+        "search past a range",
+    );
     counts.add_if(line >= task.lines && line < 512, "line of S or more");
     counts.add_if(line >= 512, "line of 512 or more");
 }
@@ -379,6 +424,10 @@ fn count_plan(counts: &mut Counts, reference: &Reference, points: &[usize]) {
     counts.add_if(least.price == 0, "plan at price 0");
     counts.add_if(model.task.reload == 0, "plan at R 0");
     counts.add_if(least.price > 0, "plan at price > 0");
+    counts.add_if(
+        least.price > 0 && model.task.scratch.count > 0,
+        "range, price > 0",
+    );
     counts.add_if(
         least.price > 0 && model.n > reference::TRY_ALL,
         "price > 0, N > 12",

@@ -70,12 +70,33 @@ pub struct Reads {
     pub numbers: Vec<u32>,
 }
 
+/// The memory blocks that bypass the cache.
+#[derive(Clone, Copy)]
+pub struct Scratch {
+    pub first: u32,
+    pub count: u32,
+}
+
+impl Scratch {
+    pub const NONE: Scratch = Scratch { first: 0, count: 0 };
+
+    /// The number after the last.
+    pub fn end(self) -> u64 {
+        self.first as u64 + self.count as u64
+    }
+
+    pub fn has(self, m: u32) -> bool {
+        m >= self.first && (m as u64) < self.end()
+    }
+}
+
 #[derive(Clone)]
 pub struct Task {
     pub lines: usize,
     pub limit: u32,
     pub reload: u32,
     pub id: u32,
+    pub scratch: Scratch,
     pub blocks: Vec<Reads>,
     pub interrupters: Vec<Reads>,
 }
@@ -97,8 +118,21 @@ impl Task {
             limit: field(blocks[0], 8, 4) as u32,
             reload: field(blocks[0], 12, 4) as u32,
             id: field(blocks[0], 16, 4) as u32,
+            scratch: Scratch {
+                first: field(blocks[0], 20, 4) as u32,
+                count: field(blocks[0], 24, 4) as u32,
+            },
             blocks: blocks[1..1 + n].iter().map(reads).collect(),
             interrupters: blocks[1 + n..].iter().map(reads).collect(),
+        }
+    }
+
+    /// The line of a memory block, or none.
+    pub fn line_of(&self, m: u32) -> Option<usize> {
+        if self.scratch.has(m) {
+            None
+        } else {
+            Some(m as usize % self.lines)
         }
     }
 }
@@ -124,7 +158,8 @@ pub fn file_refusal(file: &[u8]) -> Option<Refusal> {
         || m > 32
         || !(1..=512).contains(&s)
         || header[1] != 0
-        || !all_zero(&header[20..504])
+        || field(header, 20, 4) + field(header, 24, 4) > 1 << 32
+        || !all_zero(&header[28..504])
     {
         return refuse(3, 0);
     }
@@ -356,6 +391,13 @@ impl Model {
             .any(|c| loaded[c] && (a + 1..=b).all(|k| !(self.touched[k][c] && self.useful[k][c])))
     }
 
+    /// Whether more lines would be struck if no number bypassed the cache.
+    pub fn strikes_fewer(&self) -> bool {
+        let mut task = self.task.clone();
+        task.scratch = Scratch::NONE;
+        struck_lines(&task) != self.struck
+    }
+
     pub fn length(&self, a: usize, b: usize) -> u64 {
         self.lengths[a][b]
     }
@@ -448,7 +490,9 @@ impl Model {
 fn touched_lines(task: &Task, k: usize) -> Set {
     let mut set = empty_set();
     for &m in &task.blocks[k - 1].numbers {
-        set[m as usize % task.lines] = true;
+        if let Some(line) = task.line_of(m) {
+            set[line] = true;
+        }
     }
     set
 }
@@ -458,7 +502,9 @@ fn struck_lines(task: &Task) -> Set {
     let mut set = empty_set();
     for block in &task.interrupters {
         for &m in &block.numbers {
-            set[m as usize % task.lines] = true;
+            if let Some(line) = task.line_of(m) {
+                set[line] = true;
+            }
         }
     }
     set
@@ -469,15 +515,18 @@ fn useful_lines(task: &Task, k: usize) -> Set {
     let mut cache: Vec<Option<u32>> = vec![None; LINES];
     for block in &task.blocks[..k] {
         for &m in &block.numbers {
-            cache[m as usize % task.lines] = Some(m);
+            if let Some(line) = task.line_of(m) {
+                cache[line] = Some(m);
+            }
         }
     }
     let mut first: Vec<Option<u32>> = vec![None; LINES];
     for block in &task.blocks[k..] {
         for &m in &block.numbers {
-            let line = m as usize % task.lines;
-            if first[line].is_none() {
-                first[line] = Some(m);
+            if let Some(line) = task.line_of(m) {
+                if first[line].is_none() {
+                    first[line] = Some(m);
+                }
             }
         }
     }
@@ -494,14 +543,14 @@ pub struct Found {
 }
 
 /// The first read of a line in blocks k+1 to N. Looked at are the reads up to and with it, or all
-/// of them if there is none.
+/// of them if there is none, those that bypass the cache too.
 pub fn next_read(task: &Task, line: usize, k: usize) -> Found {
     let reads: Vec<u32> = task.blocks[k..]
         .iter()
         .flat_map(|block| block.numbers.clone())
         .collect();
     for (i, &m) in reads.iter().enumerate() {
-        if m as usize % task.lines == line {
+        if task.line_of(m) == Some(line) {
             return Found {
                 number: Some(m),
                 looked: i + 1,
@@ -525,14 +574,17 @@ fn found_bytes(found: Found) -> Vec<u8> {
 }
 
 /// The reads that miss in a cache that starts empty. A read misses unless its line holds its number,
-/// which it does afterwards. At each point every line of H becomes empty.
+/// which it does afterwards; a number that lies on no line neither misses nor hits. At each point
+/// every line of H becomes empty.
 fn misses(task: &Task, points: &[usize]) -> u64 {
     let struck = struck_lines(task);
     let mut cache: Vec<Option<u32>> = vec![None; LINES];
     let mut count = 0;
     for (k, block) in (1..).zip(&task.blocks) {
         for &m in &block.numbers {
-            let line = m as usize % task.lines;
+            let Some(line) = task.line_of(m) else {
+                continue;
+            };
             if cache[line] != Some(m) {
                 count += 1;
             }

@@ -6,7 +6,7 @@ use crate::reference::{Call, Reference};
 use std::process::{Command, ExitCode};
 use std::sync::{Mutex, OnceLock};
 
-pub const BUGS: [&str; 129] = [
+pub const BUGS: [&str; 143] = [
     "line numbers in eight bits",
     "line numbers in nine bits with S 512 as 511",
     "number 0 as empty",
@@ -136,6 +136,20 @@ pub const BUGS: [&str; 129] = [
     "misses written on refusal 7",
     "a replay's points read beyond their end",
     "a replay's points written",
+    "range without its last number",
+    "range without its first number",
+    "range with the number after it",
+    "range sum in 32 bits",
+    "range end in 32 bits",
+    "range up to 2^32 refused",
+    "range on line 0",
+    "range fetched and not counted",
+    "range of interrupters not looked at",
+    "range not looked at in a search",
+    "range not counted as looked at",
+    "range counted as misses",
+    "range first without a count refused",
+    "byte 28 not looked at",
 ];
 
 fn bug() -> &'static str {
@@ -310,6 +324,9 @@ type Words = [u64; 8];
 struct Task {
     n: usize,
     s: usize,
+    /// The first memory block that bypasses the cache, and the one after the last.
+    first: u64,
+    end: u64,
     q: u64,
     r: u64,
     id: u32,
@@ -369,12 +386,32 @@ fn check_header(h: &[u8]) -> Result<(usize, usize, usize), u32> {
         || m > most_strikes
         || s < 1
         || s > most_lines
-        || !zeros(h, 20)
+        || range_refused(get32(h, 20), get32(h, 24))
+        || !zeros(h, if has("byte 28 not looked at") { 29 } else { 28 })
         || !numbered(h, 0)
     {
         return Err(code(3, 0));
     }
     Ok((n, m, s.min(512)))
+}
+
+fn range_refused(first: u32, count: u32) -> bool {
+    match bug() {
+        "range sum in 32 bits" => first.wrapping_add(count) < first,
+        "range up to 2^32 refused" => first as u64 + count as u64 >= 1 << 32,
+        "range first without a count refused" if count == 0 => first != 0,
+        _ => first as u64 + count as u64 > 1 << 32,
+    }
+}
+
+fn range_end(first: u32, count: u32) -> u64 {
+    let end = first as u64 + count as u64;
+    match bug() {
+        "range without its last number" => end.saturating_sub(1),
+        "range with the number after it" if count > 0 => end + 1,
+        "range end in 32 bits" => end as u32 as u64,
+        _ => end,
+    }
 }
 
 fn numbered(b: &[u8], i: usize) -> bool {
@@ -461,6 +498,8 @@ fn read(file: &[u8]) -> Result<Task, u32> {
     Ok(Task {
         n,
         s,
+        first: get32(file, 20) as u64,
+        end: range_end(get32(file, 20), get32(file, 24)),
         q: get32(file, 8) as u64,
         r: get32(file, 12) as u64,
         id: get32(file, 16),
@@ -470,12 +509,28 @@ fn read(file: &[u8]) -> Result<Task, u32> {
     })
 }
 
-fn line(m: u32, s: usize) -> usize {
+fn in_range(t: &Task, m: u32) -> bool {
+    let from = if has("range without its first number") {
+        t.first + 1
+    } else {
+        t.first
+    };
+    (from..t.end).contains(&(m as u64))
+}
+
+fn remainder(t: &Task, m: u32) -> usize {
     match bug() {
-        "line numbers in eight bits" => m as usize % s % 256,
-        "line numbers in nine bits with S 512 as 511" => m as usize % s.min(511),
-        _ => m as usize % s,
+        "line numbers in eight bits" => m as usize % t.s % 256,
+        "line numbers in nine bits with S 512 as 511" => m as usize % t.s.min(511),
+        _ => m as usize % t.s,
     }
+}
+
+fn line(t: &Task, m: u32) -> Option<usize> {
+    if !in_range(t, m) {
+        return Some(remainder(t, m));
+    }
+    has("range on line 0").then_some(0)
 }
 
 fn insert(set: &mut Words, c: usize) {
@@ -509,7 +564,14 @@ fn sets(t: &Task) -> Sets {
     let mut last = vec![0; 512];
     for k in 1..=t.n {
         for &m in &t.reads[k - 1] {
-            let c = line(m, t.s);
+            let c = match line(t, m) {
+                Some(c) => c,
+                None if has("range fetched and not counted") => {
+                    held[remainder(t, m)] = Some(m);
+                    continue;
+                }
+                None => continue,
+            };
             insert(&mut touched[k], c);
             if has("number 0 as empty") && held[c] == Some(0) {
                 held[c] = None;
@@ -536,7 +598,9 @@ fn sets(t: &Task) -> Sets {
         for k in 0..=t.n {
             if k > 0 {
                 for &m in &t.reads[k - 1] {
-                    held[line(m, t.s)] = Some(m);
+                    if let Some(c) = line(t, m) {
+                        held[c] = Some(m);
+                    }
                 }
             }
             useful[k] = [0; 8];
@@ -544,7 +608,7 @@ fn sets(t: &Task) -> Sets {
                 let mut later = t.reads[k..]
                     .iter()
                     .flatten()
-                    .filter(|&&m| line(m, t.s) == c);
+                    .filter(|&&m| line(t, m) == Some(c));
                 let there = match held[c] {
                     None => false,
                     Some(h) if has("useful if read again at any later time") => {
@@ -568,7 +632,11 @@ fn sets(t: &Task) -> Sets {
         t.strikes.len()
     };
     for &m in t.strikes[..count].iter().flatten() {
-        insert(&mut struck, line(m, t.s));
+        if has("range of interrupters not looked at") {
+            insert(&mut struck, remainder(t, m));
+        } else if let Some(c) = line(t, m) {
+            insert(&mut struck, c);
+        }
     }
     if has("interrupters forgotten") {
         struck = [u64::MAX; 8];
@@ -1040,10 +1108,16 @@ fn search(t: &Task, c: usize, k: usize) -> [u64; 3] {
     for &m in t.reads[from..to].iter().flatten() {
         let here = match bug() {
             "search compares the number itself" => m as usize == c,
-            "search finds number 0 nowhere" => m != 0 && line(m, t.s) == c,
-            _ => line(m, t.s) == c,
+            "search finds number 0 nowhere" => m != 0 && line(t, m) == Some(c),
+            "range not looked at in a search" => remainder(t, m) == c,
+            _ => line(t, m) == Some(c),
         };
-        if here || !has("looked at on the line alone") {
+        let passed_over = match bug() {
+            "looked at on the line alone" => !here,
+            "range not counted as looked at" => in_range(t, m),
+            _ => false,
+        };
+        if !passed_over {
             looked += 1;
         }
         if here {
@@ -1073,14 +1147,19 @@ fn replay(t: &Task, sets: &Sets, points: &[usize]) -> [u64; 2] {
     let mut counts = [0; 2];
     if has("the second walk begins with the first one's cache") {
         for &m in t.reads.iter().flatten() {
-            preempted[line(m, t.s)] = Some(m);
+            if let Some(c) = line(t, m) {
+                preempted[c] = Some(m);
+            }
         }
     }
     let emptied = |c: usize| sets.struck[c / 64] >> (c % 64) & 1 == 1;
     let mut passed = 0;
     for k in 1..=t.n {
         for &m in &t.reads[k - 1] {
-            let c = line(m, t.s);
+            let Some(c) = line(t, m) else {
+                counts = counts.map(|count| count + has("range counted as misses") as u64);
+                continue;
+            };
             counts[0] += fetch(&mut alone[c], m);
             counts[1] += fetch(&mut preempted[c], m);
         }

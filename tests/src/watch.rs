@@ -107,13 +107,15 @@ fn fields(file: &[u8]) -> String {
         return "no header".to_string();
     }
     let mut text = format!(
-        "N {} M {} S {} Q {} R {} id {}\n",
+        "N {} M {} S {} Q {} R {} id {}, range of {} from {}\n",
         field(file, 2, 2),
         field(file, 4, 2),
         field(file, 6, 2),
         field(file, 8, 4),
         field(file, 12, 4),
-        field(file, 16, 4)
+        field(file, 16, 4),
+        field(file, 24, 4),
+        field(file, 20, 4)
     );
     for (i, block) in file.chunks_exact(BLOCK).enumerate().skip(1) {
         let r = field(block, 2, 2).min(124) as usize;

@@ -1,7 +1,9 @@
 -- What a cache holds of a task. Assumes nothing.
-use Prim.Native.Nat.{_/_, _^_, _≤_}
+use Prim.Native.Nat.{_+_, _/_, _^_, _≤_, _<_}
 use mathlib.Core.Path.{_≡_}
 use Rattle.model.specs.Task.{Task}
+use Rattle.model.specs.declared.Mapping.{Mapping}
+use Rattle.model.specs.declared.Mapping.the-variants.{Uncached, Cached}
 use Rattle.cacheline.specs.declared.Cache.{Cache}
 
 -- from 1 to 512 lines, and the quotient of 2 ^ 32 by their number
@@ -14,3 +16,10 @@ pub record Sound (c : Cache) : Type 0 where
 pub record CacheOf (t : Task) (c : Cache) : Type 0 where
   pub sound : Sound c
   pub count : c .count ≡ t .lineCount
+  pub first : c .first ≡ t .scratchFirst
+  pub end : c .end ≡ t .scratchFirst + t .scratchCount
+
+-- a line, if there is one, is below 512
+abbrev pub WithinCache : Mapping → Type 0
+WithinCache Uncached = Unit
+WithinCache (Cached c) = c < 512

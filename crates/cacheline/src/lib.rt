@@ -1,16 +1,21 @@
 // The cache of an accepted file, and the line of a memory block in it.
 ghost use mathlib.Core.Path.{_≡_};
-ghost use Prim.Native.Nat.{_<_};
+ghost use Prim.Native.Nat.{_%_, _<_};
 ghost use Rattle.model.specs.Task.{Task};
 ghost use Rattle.model.specs.Lines.{lineOf, onLine};
+ghost use Rattle.model.specs.Lines as Lines;
 ghost use Rattle.taskfile.specs.File.{verdict, taskOf};
-ghost use Rattle.cacheline.specs.Caches.{Sound, CacheOf};
+ghost use Rattle.cacheline.specs.Caches.{Sound, CacheOf, WithinCache};
+use model::Mapping;
 use model::Verdict;
 
-// The number of lines, and 2^32 divided by it, which spares a division for each read.
+// The number of lines, and 2^32 divided by it, which spares a division for each read; and the memory blocks that bypass the cache, from the
+// first up to the end.
 pub struct Cache {
     pub count: u32,
     pub inverse: u64,
+    pub first: u64,
+    pub end: u64,
 }
 
 // The cache of a file.
@@ -19,17 +24,56 @@ pub fn cache_of(file: &[u8]) -> Cache
     ensures { λ r. ⌜ CacheOf (taskOf (now (file .entry))) r ⌝ }
 {
     let count = taskfile::line_count(file);
+    let first = taskfile::scratch_first(file) as u64;
+    let end = first + taskfile::scratch_count(file) as u64;
     Cache {
         count,
         inverse: 4294967296 / count as u64,
+        first,
+        end,
     }
 }
 
 impl Cache {
-    // The line of a memory block: its remainder by the count, from a quotient that is right or one too small.
-    pub fn line_of(self, number: u32) -> usize
+    // The line of a memory block, or none.
+    pub fn line_of(self, number: u32) -> Mapping
         requires { ⌜ Sound self ⌝ }
-        ensures { λ r. ⌜ ((t : Task) → CacheOf t self → r ≡ lineOf t number) × (r < 512) ⌝ }
+        ensures { λ r. ⌜ ((t : Task) → CacheOf t self → r ≡ lineOf t number) × WithinCache r ⌝ }
+    {
+        if self.bypasses(number) {
+            Mapping::Uncached
+        } else {
+            Mapping::Cached(self.remainder(number))
+        }
+    }
+
+    // Whether a memory block lies on line c.
+    pub fn lies_on(self, number: u32, c: usize) -> bool
+        requires { ⌜ Sound self ⌝ }
+        ensures { λ r. ⌜ ((t : Task) → CacheOf t self → r ≡ onLine t c number) ⌝ }
+    {
+        if c == self.remainder(number) {
+            return !self.bypasses(number);
+        }
+        false
+    }
+
+    // Whether a memory block is in the scratch range.
+    fn bypasses(self, number: u32) -> bool
+        ensures { λ r. ⌜ ((t : Task) → CacheOf t self → r ≡ Lines.bypasses t number) ⌝ }
+    {
+        let at = number as u64;
+        if at < self.end {
+            self.first <= at
+        } else {
+            false
+        }
+    }
+
+    // A number's remainder by the count, from a quotient that is right or one too small.
+    fn remainder(self, number: u32) -> usize
+        requires { ⌜ Sound self ⌝ }
+        ensures { λ r. ⌜ (r ≡ number % self .count) × (r < 512) ⌝ }
     {
         let lines = self.count as u64;
         let quotient = (number as u64 * self.inverse) >> 32;
@@ -39,13 +83,5 @@ impl Cache {
         } else {
             (rest - lines) as usize
         }
-    }
-
-    // Whether a memory block lies on line c.
-    pub fn lies_on(self, number: u32, c: usize) -> bool
-        requires { ⌜ Sound self ⌝ }
-        ensures { λ r. ⌜ ((t : Task) → CacheOf t self → r ≡ onLine t c number) ⌝ }
-    {
-        c == self.line_of(number)
     }
 }

@@ -12,14 +12,16 @@ use lib.Dec.{eqb, ltb, leb}
 use borrow.Author.Tests.{eqb-true, le-leb, ltb-true, not-true}
 use Rattle.model.specs.Sets.{Lines, listed, countBelow}
 use Rattle.model.specs.Task.{Task, blockCount}
-use Rattle.model.specs.Lines.{lineOf, onLine, lastRead, firstRead, anyRead, readsOf, preempterReads, blockAt, stateAfter, nextRead, lookedAt, readsLookedAt, asNext, useful, accessed, evicted}
+use Rattle.model.specs.Lines.{bypasses, lineOf, onLine, lastRead, firstRead, anyRead, readsOf, preempterReads, blockAt, stateAfter, nextRead, lookedAt, readsLookedAt, asNext, useful, accessed, evicted}
 use Rattle.model.specs.Lists.{steps, regions, every, total, lowest, wellFormed, before, among, sameList, risingLists, allLists}
 use Rattle.model.specs.Regions.{unionAfter, timeAfter, loaded, regionLines, regionLength, regionFits, regionCost, lines, cost, fits, FirstBest, NoPlacementFits}
 use Rattle.model.specs.Replay.{miss, fetch, misses, after, emptied, atEdge, walk, missesWith, missesAlone}
 use Rattle.model.specs.Answers.{accepted, pricing, number, place}
-use Rattle.model.specs.Cases.{Case, usefulAre, nextIs, evictedAre, loadedAre, lengthIs, bestAre, firstIs, fittingAre, noneFits, priced, refused, lineIs, replayed, RefusedBy, CaseHolds, cases}
+use Rattle.model.specs.Cases.{Case, usefulAre, nextIs, evictedAre, loadedAre, lengthIs, bestAre, firstIs, fittingAre, noneFits, priced, refused, lineIs, onNoLine, replayed, RefusedBy, CaseHolds, cases}
 use Rattle.model.specs.Planning.{chosen, Planned}
 use Rattle.model.specs.Laws.{CasesHold}
+use Rattle.model.specs.declared.Mapping.{Mapping}
+use Rattle.model.specs.declared.Mapping.the-variants.{Uncached, Cached}
 use Rattle.model.specs.declared.Next.{Next}
 use Rattle.model.specs.declared.Next.the-variants.{Read, Never}
 use Rattle.model.specs.declared.Plan.{Plan}
@@ -27,6 +29,7 @@ use Rattle.model.specs.declared.Refusal.the-variants.{NoPlacement}
 use Rattle.model.specs.declared.Verdict.{Verdict}
 use Rattle.model.specs.declared.Verdict.the-variants.{Accepted, Refused}
 use Rattle.model.proofs.Verdicts.{is-accepted}
+use Rattle.model.proofs.LineStates.{lies-on, lies-nowhere}
 use Rattle.model.proofs.Lists.{and-split, same-list, list-same, enumerated}
 use Rattle.model.proofs.Order.{one-first}
 
@@ -66,6 +69,12 @@ sameNext (Read m) Never = false
 sameNext Never (Read n) = false
 sameNext Never Never = true
 
+sameMapping : Mapping → Mapping → Bool
+sameMapping Uncached Uncached = true
+sameMapping Uncached (Cached d) = false
+sameMapping (Cached c) Uncached = false
+sameMapping (Cached c) (Cached d) = eqb c d
+
 test : Case → Bool
 test (usefulAre t k ds) = agreeBelow 512 (useful t k) (listed ds)
 test (nextIs t c k n l) = sameNext (asNext (nextRead t k c)) n && eqb (readsLookedAt t k c) l
@@ -78,7 +87,8 @@ test (fittingAre t pss) = exactly t (fits t) pss
 test (noneFits t n i) = onAll t (λ ps. not (fits t ps)) && refusedBy n i (Refused NoPlacement)
 test (priced t ps l p) = accepted (pricing t ps) && eqb (lines t ps) l && eqb (cost t ps) p
 test (refused t ps n i) = refusedBy n i (pricing t ps)
-test (lineIs t m c) = eqb (lineOf t m) c
+test (lineIs t m c) = sameMapping (lineOf t m) (Cached c)
+test (onNoLine t m) = sameMapping (lineOf t m) Uncached
 test (replayed t ps a b) = eqb (missesAlone t) a && eqb (missesWith t ps) b
 
 everyCase : List Case → Bool
@@ -206,6 +216,13 @@ same-next (Read m) Never h = absurd (false≢true h)
 same-next Never (Read n) h = absurd (false≢true h)
 same-next Never Never h = refl
 
+same-mapping : (x y : Mapping) → sameMapping x y ≡ true → x ≡ y
+unfolding sameMapping
+same-mapping Uncached Uncached h = refl
+same-mapping Uncached (Cached d) h = absurd (false≢true h)
+same-mapping (Cached c) Uncached h = absurd (false≢true h)
+same-mapping (Cached c) (Cached d) h = ap Cached (eqb-true c d h)
+
 sound : (c : Case) → test c ≡ true → CaseHolds c
 unfolding test onLine
 sound (usefulAre t k ds) h = agree 512 (useful t k) (listed ds) h
@@ -233,13 +250,14 @@ sound (priced t ps l p) h =
     let two = and-split (accepted (pricing t ps)) (eqb (lines t ps) l) (three .0) in
     (is-accepted (pricing t ps) (two .0), eqb-true (lines t ps) l (two .1), eqb-true (cost t ps) p (three .1))
 sound (refused t ps n i) h = is-refused n i (pricing t ps) h
-sound (lineIs t m c) h = λ d. ap (λ (x : ℕ). eqb d x) (eqb-true (lineOf t m) c h)
+sound (lineIs t m c) h = lies-on t m c (same-mapping (lineOf t m) (Cached c) h)
+sound (onNoLine t m) h = lies-nowhere t m (same-mapping (lineOf t m) Uncached h)
 sound (replayed t ps a b) h =
     let both = and-split (eqb (missesAlone t) a) (eqb (missesWith t ps) b) h in
     (eqb-true (missesAlone t) a (both .0), eqb-true (missesWith t ps) b (both .1))
 
 all-pass : everyCase cases ≡ true
-unfolding everyCase test agreeBelow everyList onAll exactly some ahead sameNext refusedBy listed useful stateAfter nextRead lastRead firstRead lookedAt readsLookedAt readsOf lineOf onLine accessed anyRead blockAt evicted preempterReads loaded unionAfter regionLines countBelow regionLength timeAfter regionFits regionCost every total lowest regions steps before among sameList risingLists miss fetch misses after emptied atEdge walk missesWith missesAlone
+unfolding everyCase test agreeBelow everyList onAll exactly some ahead sameNext sameMapping refusedBy listed useful stateAfter nextRead lastRead firstRead lookedAt readsLookedAt readsOf bypasses lineOf onLine accessed anyRead blockAt evicted preempterReads loaded unionAfter regionLines countBelow regionLength timeAfter regionFits regionCost every total lowest regions steps before among sameList risingLists miss fetch misses after emptied atEdge walk missesWith missesAlone
 all-pass = refl
 
 held : (cs : List Case) → everyCase cs ≡ true → (c : Case) → List·Memᴰ c cs → CaseHolds c

@@ -4,17 +4,19 @@ use Prim.Native.Nat.{ℕ, suc, _+_, _%_, _≤_, _<_}
 use native.Mathlib.Nat.{mod-lt}
 use native.Mathlib.Numerals.{add-one}
 use native.Mathlib.Omega.{arith}
+use lib.Dec.{eqb, leb, ltb}
 use lib.ListN.{length, getD, take, drop}
 use lib.Seq.{take-suc, drop-length}
-use borrow.Author.Tests.{ne-eqb}
+use borrow.Author.Tests.{ne-eqb, le-ltb, leb-true}
 use mathlib.Core.Path.{_≡_, refl, sym, ap, _∙_}
-use mathlib.Core.Bool.{Bool, true, false, cond, _||_, or-assoc, or-false, true≢false}
+use mathlib.Core.Bool.{Bool, true, false, cond, _&&_, _||_, or-assoc, or-false, true≢false}
 use mathlib.Core.List.{List, [], _∷_, _++_}
 use Rattle.model.specs.Task.{Task, blockCount}
-use Rattle.model.specs.Lines.{lineOf, onLine, lastRead, firstRead, anyRead, sameBlock, readsOf, preempterReads, stateAfter, nextRead, useful, evicted}
-use Rattle.model.specs.Laws.{EmptyNotUseful, UsefulStart, UsefulEnd}
+use Rattle.model.specs.Lines.{bypasses, lineOf, isLine, onLine, lastRead, firstRead, anyRead, sameBlock, readsOf, preempterReads, stateAfter, nextRead, useful, evicted}
+use Rattle.model.specs.Laws.{EmptyNotUseful, UsefulStart, UsefulEnd, NoScratch}
 use Rattle.model.specs.declared.Line.{Line}
 use Rattle.model.specs.declared.Line.the-variants.{Empty, Held}
+use Rattle.model.specs.declared.Mapping.the-variants.{Uncached, Cached}
 
 neither : (a b : Bool) → (a || b) ≡ false → (a ≡ false) × (b ≡ false)
 neither true b h = absurd (true≢false h)
@@ -70,6 +72,24 @@ module _ (on : ℕ → Bool) where
       rw (add-one j, take-suc xs j 0 h) (any-append (take j xs) (getD xs j 0 ∷ []))
       ∙ ap (λ (b : Bool). anyRead on (take j xs) || b) (or-false (on (getD xs j 0)))
 
+-- a memory block lies on the line that its mapping names and on no other, or on none
+module _ (t : Task) (m : ℕ) where
+  pub lies-on : (line : ℕ) → lineOf t m ≡ Cached line → (c : ℕ) → onLine t c m ≡ eqb c line
+  unfolding onLine
+  lies-on line e c = ap (isLine c) e
+
+  pub lies-nowhere : lineOf t m ≡ Uncached → (c : ℕ) → onLine t c m ≡ false
+  unfolding onLine
+  lies-nowhere e c = ap (isLine c) e
+
+pub no-scratch : NoScratch
+unfolding lineOf bypasses
+no-scratch t m e = rw (e, outside (leb (t .scratchFirst) m) refl) refl
+  where
+    outside : (b : Bool) → leb (t .scratchFirst) m ≡ b → (b && ltb m (t .scratchFirst + 0)) ≡ false
+    outside true h = le-ltb m (t .scratchFirst + 0) (omega (arith, leb-true (t .scratchFirst) m h))
+    outside false h = refl
+
 pub never-empty : (l : Line) → sameBlock l Empty ≡ false
 never-empty Empty = refl
 never-empty (Held n) = refl
@@ -94,10 +114,18 @@ useful-end t c = rw (drop-length (t .blocks)) (never-empty (stateAfter t (blockC
 
 -- no number lies on a line beyond the cache, so none is useful there
 module _ (t : Task) (least : 1 ≤ t .lineCount) (c : ℕ) (beyond : t .lineCount ≤ c) where
+  off-beyond : (m : ℕ) → onLine t c m ≡ false
+  unfolding onLine lineOf
+  off-beyond m = go (bypasses t m)
+    where
+      go : (b : Bool) → isLine c (cond b Uncached (Cached (m % t .lineCount))) ≡ false
+      go true = refl
+      go false = ne-eqb c (m % t .lineCount) (λ e. omega (arith, mod-lt m least))
+
   pub unread-beyond : (xs : List ℕ) → anyRead (onLine t c) xs ≡ false
-  unfolding anyRead onLine lineOf
+  unfolding anyRead
   unread-beyond [] = refl
-  unread-beyond (x ∷ xs) = rw (ne-eqb c (x % t .lineCount) (λ e. omega (arith, mod-lt x least))) (unread-beyond xs)
+  unread-beyond (x ∷ xs) = rw (off-beyond x) (unread-beyond xs)
 
   pub evicted-beyond : evicted t c ≡ false
   unfolding evicted

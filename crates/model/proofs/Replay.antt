@@ -14,13 +14,14 @@ use lib.Seq.{length-take-le, take-suc, take-add, take-all, getD-drop, drop-drop}
 use borrow.Author.Tests.{eq-eqb, ne-eqb, ltb-true}
 use Rattle.model.specs.Sets.{Lines, listed, bit, countBelow}
 use Rattle.model.specs.Task.{Block, Task, blockCount}
-use Rattle.model.specs.Lines.{lineOf, onLine, lastRead, firstRead, anyRead, sameBlock, readsOf, blockAt, stateAfter, nextRead, useful, accessed, evicted}
+use Rattle.model.specs.Lines.{bypasses, lineOf, isLine, onLine, lastRead, firstRead, anyRead, sameBlock, readsOf, blockAt, stateAfter, nextRead, useful, accessed, evicted}
 use Rattle.model.specs.Lists.{steps, regions, every, total, rightPoint}
 use Rattle.model.specs.Regions.{unionAfter, loaded, regionLines, lines}
-use Rattle.model.specs.Replay.{Cache, emptyCache, miss, fetch, misses, after, emptied, atEdge, walk, missesWith, missesAlone}
+use Rattle.model.specs.Replay.{Cache, emptyCache, missAt, miss, fetch, misses, after, emptied, atEdge, walk, missesWith, missesAlone}
 use Rattle.model.specs.Laws.{AddedMisses}
 use Rattle.model.specs.declared.Line.{Line}
 use Rattle.model.specs.declared.Line.the-variants.{Empty, Held}
+use Rattle.model.specs.declared.Mapping.the-variants.{Uncached, Cached}
 use Rattle.model.proofs.Digits.{count-agree, count-none, count-one, count-sum}
 use Rattle.model.proofs.LineStates.{any-append, first-none, first-append, never-empty}
 use Rattle.model.proofs.ReadOrder.{reads-append}
@@ -166,7 +167,12 @@ module _ (t : Task) where
     -- a read's miss: the lines on which it is one, of which there is one at most
     miss-lines : (s : Cache) (m : ℕ) → bit (miss t s m) ≡ countBelow 512 (λ c. onLine t c m && not (sameBlock (s c) (Held m)))
     unfolding miss onLine lineOf
-    miss-lines s m = sym (count-one 512 (m % t .lineCount) (λ c. not (sameBlock (s c) (Held m))) (omega (arith, mod-lt m least)))
+    miss-lines s m = go (bypasses t m)
+      where
+        go : (b : Bool) → bit (missAt s m (cond b Uncached (Cached (m % t .lineCount))))
+            ≡ countBelow 512 (λ c. isLine c (cond b Uncached (Cached (m % t .lineCount))) && not (sameBlock (s c) (Held m)))
+        go true = sym (count-none 512 (λ c. false) (λ c l. refl))
+        go false = sym (count-one 512 (m % t .lineCount) (λ c. not (sameBlock (s c) (Held m))) (omega (arith, mod-lt m least)))
 
     -- a read of m with some lines lost and with none; f is each line's read after it
     read-misses : (lost : Lines) (s : Cache) (m : ℕ) (f : ℕ → Line)

@@ -1,8 +1,8 @@
--- Document 01's cases marked P as document 02 has changed them, two more of its rules on small tasks, document 02's first four items, and
+-- Document 01's cases marked P as document 02 has changed them, two more of its rules on small tasks, document 02's first five items, and
 -- document 004's appendix A. A case is a claim on a task; a claim about lists is one about every list. Assumes nothing.
 use Prim.Native.Nat.{ℕ, _<_}
 use mathlib.Core.Path.{_≡_}
-use mathlib.Core.Bool.{true, _&&_}
+use mathlib.Core.Bool.{true, false, _&&_}
 use mathlib.Core.List.{List, [], _∷_}
 use lib.Dec.{eqb}
 use Rattle.model.specs.Sets.{Lines, listed}
@@ -33,6 +33,7 @@ pub data Case : Type 0 where
   priced : Task → List ℕ → ℕ → ℕ → Case  -- a list's lines and cost
   refused : Task → List ℕ → ℕ → ℕ → Case  -- pricing refuses the list by this number at this place
   lineIs : Task → ℕ → ℕ → Case  -- the line of a number
+  onNoLine : Task → ℕ → Case  -- a number that lies on none
   replayed : Task → List ℕ → ℕ → ℕ → Case  -- the misses alone, and with these points
 
 -- the set is just these lines
@@ -57,6 +58,7 @@ CaseHolds (noneFits t n i) = NoPlacementFits t × ((v : Verdict) (p : Plan) → 
 CaseHolds (priced t ps l p) = (pricing t ps ≡ Accepted) × (lines t ps ≡ l) × (cost t ps ≡ p)
 CaseHolds (refused t ps n i) = RefusedBy n i (pricing t ps)
 CaseHolds (lineIs t m c) = (d : ℕ) → onLine t d m ≡ eqb d c
+CaseHolds (onNoLine t m) = (d : ℕ) → onLine t d m ≡ false
 CaseHolds (replayed t ps a b) = (missesAlone t ≡ a) × (missesWith t ps ≡ b)
 
 abbrev pub block : ℕ → List ℕ → Block
@@ -65,21 +67,26 @@ block time reads = record { time = time; reads = reads }
 abbrev pub preempter : List ℕ → Preempter
 preempter reads = record { id = 0; reads = reads }
 
--- File Seven, with S lines and the limit Q
-abbrev pub fileSeven : ℕ → ℕ → Task
-fileSeven s q =
+-- File Seven, with S lines, the limit Q and a scratch range of its first numbers, none where there are 0
+abbrev pub scratchSeven : ℕ → ℕ → ℕ → Task
+scratchSeven s q count =
     record {
       id = 7;
       lineCount = s;
       limit = q;
       reload = 10;
+      scratchFirst = 0;
+      scratchCount = count;
       blocks = block 20 (0 ∷ 1 ∷ []) ∷ block 20 (2 ∷ []) ∷ block 20 (0 ∷ []) ∷ block 20 (5 ∷ 0 ∷ []) ∷ [];
       preempters = preempter (4 ∷ 1 ∷ []) ∷ [];
     }
 
+abbrev pub fileSeven : ℕ → ℕ → Task
+fileSeven s q = scratchSeven s q 0
+
 -- one basic block of 60 ticks
 abbrev pub oneBlock : ℕ → Task
-oneBlock q = record { id = 7; lineCount = 4; limit = q; reload = 10; blocks = block 60 [] ∷ []; preempters = [] }
+oneBlock q = record { id = 7; lineCount = 4; limit = q; reload = 10; scratchFirst = 0; scratchCount = 0; blocks = block 60 [] ∷ []; preempters = [] }
 
 -- a number that is read for the last time after the only point, on a line that the preempter evicts
 abbrev pub readTwice : Task
@@ -89,6 +96,8 @@ readTwice =
       lineCount = 4;
       limit = 60;
       reload = 10;
+      scratchFirst = 0;
+      scratchCount = 0;
       blocks = block 20 (0 ∷ []) ∷ block 20 (0 ∷ []) ∷ [];
       preempters = preempter (4 ∷ []) ∷ [];
     }
@@ -101,6 +110,8 @@ sameRead =
       lineCount = 4;
       limit = 60;
       reload = 10;
+      scratchFirst = 0;
+      scratchCount = 0;
       blocks = block 20 (0 ∷ []) ∷ block 20 (0 ∷ []) ∷ block 20 (0 ∷ []) ∷ block 20 (0 ∷ []) ∷ [];
       preempters = preempter (4 ∷ []) ∷ [];
     }
@@ -113,6 +124,8 @@ appendixA =
       lineCount = 16;
       limit = 0;
       reload = 390;
+      scratchFirst = 0;
+      scratchCount = 0;
       blocks =
           block 0 (1 ∷ 2 ∷ []) ∷ block 0 (3 ∷ 4 ∷ 8 ∷ []) ∷ block 0 (4 ∷ 5 ∷ 6 ∷ 8 ∷ []) ∷ block 0 (1 ∷ 2 ∷ 7 ∷ 8 ∷ []) ∷
           block 0 (1 ∷ 2 ∷ 7 ∷ 8 ∷ []) ∷ block 0 (1 ∷ 2 ∷ 7 ∷ 8 ∷ []) ∷ [];
@@ -160,6 +173,16 @@ cases =
     loadedAre sameRead 1 2 (0 ∷ []) ∷ loadedAre sameRead 2 4 (0 ∷ []) ∷ priced sameRead (1 ∷ 2 ∷ []) 2 20 ∷
     -- document 02, item 3: interrupted just before its last read, a line is fetched again
     loadedAre readTwice 1 2 (0 ∷ []) ∷ lengthIs readTwice 1 2 30 ∷ priced readTwice (1 ∷ []) 1 10 ∷
+    -- document 02, item 5: number 0 bypasses the cache, 1 and 4 do not. No line of the task is read again for what it holds; H is {0, 1} by
+    -- 4 and 1. A search looks at 0 and goes on, and a replay counts it neither as a hit nor as a miss. Every list that fits Q 60 costs nothing.
+    onNoLine (scratchSeven 4 60 1) 0 ∷ lineIs (scratchSeven 4 60 1) 1 1 ∷ lineIs (scratchSeven 4 60 1) 4 0 ∷
+    usefulAre (scratchSeven 4 60 1) 1 [] ∷ usefulAre (scratchSeven 4 60 1) 2 [] ∷ usefulAre (scratchSeven 4 60 1) 3 [] ∷
+    nextIs (scratchSeven 4 60 1) 0 1 Never 4 ∷ nextIs (scratchSeven 4 60 1) 1 1 (Read 5) 3 ∷
+    evictedAre (scratchSeven 4 60 1) (0 ∷ 1 ∷ []) ∷ loadedAre (scratchSeven 4 60 1) 1 4 [] ∷ lengthIs (scratchSeven 4 60 1) 1 4 60 ∷
+    firstIs (scratchSeven 4 60 1) (1 ∷ []) ∷ priced (scratchSeven 4 60 1) (1 ∷ []) 0 0 ∷
+    replayed (scratchSeven 4 60 1) (1 ∷ 2 ∷ 3 ∷ []) 3 3 ∷
+    -- with the range 0 to 4 both numbers of the preempter bypass the cache, and H is empty
+    evictedAre (scratchSeven 4 60 5) [] ∷ lineIs (scratchSeven 4 60 5) 5 1 ∷
     -- 004, figure 9: the useful lines of task 1
     usefulAre appendixA 1 (1 ∷ 2 ∷ []) ∷ usefulAre appendixA 2 (1 ∷ 2 ∷ 4 ∷ 8 ∷ []) ∷ usefulAre appendixA 3 (1 ∷ 2 ∷ 8 ∷ []) ∷
     usefulAre appendixA 4 (1 ∷ 2 ∷ 7 ∷ 8 ∷ []) ∷ usefulAre appendixA 5 (1 ∷ 2 ∷ 7 ∷ 8 ∷ []) ∷

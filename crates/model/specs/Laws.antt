@@ -1,6 +1,6 @@
 -- What documents 01 and 02 say of the definitions and no contract states. Each is proved in proofs/ under its name in small letters.
 -- Assumes nothing.
-use Prim.Native.Nat.{ℕ, _+_, _*_, _≤_, _<_}
+use Prim.Native.Nat.{ℕ, _+_, _*_, _%_, _≤_, _<_}
 use mathlib.Core.Path.{_≡_}
 use mathlib.Core.Bool.{Bool, true, false}
 use mathlib.Core.Logic.{_⊎_}
@@ -8,13 +8,14 @@ use mathlib.Core.List.{List, [], _∷_, List·Memᴰ}
 use lib.Count.{ones}
 use Rattle.model.specs.Sets.{Lines, size, words, inWords}
 use Rattle.model.specs.Task.{Task, blockCount}
-use Rattle.model.specs.Lines.{stateAfter, useful}
+use Rattle.model.specs.Lines.{lineOf, stateAfter, useful}
 use Rattle.model.specs.Lists.{wellFormed, before, FirstOfLeast, among, allLists}
 use Rattle.model.specs.Regions.{lines, cost}
 use Rattle.model.specs.Replay.{missesAlone, missesWith}
 use Rattle.model.specs.Planning.{Planned}
 use Rattle.model.specs.Cases.{Case, CaseHolds, cases}
 use Rattle.model.specs.declared.Line.the-variants.{Empty}
+use Rattle.model.specs.declared.Mapping.the-variants.{Cached}
 use Rattle.model.specs.declared.Plan.{Plan}
 use Rattle.model.specs.declared.Verdict.{Verdict}
 
@@ -42,6 +43,10 @@ UsefulStart = (t : Task) (c : ℕ) → useful t 0 c ≡ false
 -- and so is U(N)
 abbrev pub UsefulEnd : Type 0
 UsefulEnd = (t : Task) (c : ℕ) → useful t (blockCount t) c ≡ false
+
+-- with no scratch range the line of a number is its remainder by S, so that files with zeros there answer as before (document 02, item 5)
+abbrev pub NoScratch : Type 0
+NoScratch = (t : Task) (m : ℕ) → t .scratchCount ≡ 0 → lineOf t m ≡ Cached (m % t .lineCount)
 
 -- a list's price is R times its lines
 abbrev pub CostOfLines : Type 0

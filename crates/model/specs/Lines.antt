@@ -1,24 +1,35 @@
 -- The lines of a task (document 01, "Lines"; 003's reaching and live states on a straight line; 004, equation 7).
 -- Assumes nothing.
-use Prim.Native.Nat.{ℕ, zero, suc, _%_}
-use mathlib.Core.Bool.{Bool, false, cond, _||_}
+use Prim.Native.Nat.{ℕ, zero, suc, _+_, _%_}
+use mathlib.Core.Bool.{Bool, false, cond, _&&_, _||_}
 use mathlib.Core.List.{List, [], _∷_, _++_}
-use lib.Dec.{eqb}
+use lib.Dec.{eqb, leb, ltb}
 use lib.ListN.{getD, take, drop}
 use Rattle.model.specs.Sets.{Lines}
 use Rattle.model.specs.Task.{Block, Preempter, Task}
 use Rattle.model.specs.declared.Line.{Line}
 use Rattle.model.specs.declared.Line.the-variants.{Empty, Held}
+use Rattle.model.specs.declared.Mapping.{Mapping}
+use Rattle.model.specs.declared.Mapping.the-variants.{Uncached, Cached}
 use Rattle.model.specs.declared.Next.{Next}
 use Rattle.model.specs.declared.Next.the-variants.{Read, Never}
 
--- the line of memory block m: the one place where a number becomes a line
-unfoldable pub lineOf : Task → ℕ → ℕ
-lineOf t m = m % t .lineCount
+-- memory block m bypasses the cache: it is in the scratch range (document 02, item 5)
+unfoldable pub bypasses : Task → ℕ → Bool
+bypasses t m = leb (t .scratchFirst) m && ltb m (t .scratchFirst + t .scratchCount)
+
+-- the line of memory block m, or none: the one place where a number becomes a line
+unfoldable pub lineOf : Task → ℕ → Mapping
+lineOf t m = cond (bypasses t m) Uncached (Cached (m % t .lineCount))
+
+-- a memory block that lies there lies on line c
+abbrev pub isLine : ℕ → Mapping → Bool
+isLine c Uncached = false
+isLine c (Cached d) = eqb c d
 
 -- memory block m lies on line c
 unfoldable pub onLine : Task → ℕ → ℕ → Bool
-onLine t c m = eqb c (lineOf t m)
+onLine t c m = isLine c (lineOf t m)
 
 -- the state of a line that was l, after these reads; on tells which numbers lie on it
 unfoldable pub lastRead : (ℕ → Bool) → Line → List ℕ → Line

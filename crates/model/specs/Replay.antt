@@ -1,13 +1,15 @@
 -- Replay of the reads (document 02, item 4): a cache starts empty, the blocks are read one after another, and the misses are counted.
 -- Assumes nothing.
 use Prim.Native.Nat.{ℕ, suc, _+_}
-use mathlib.Core.Bool.{Bool, not, cond}
+use mathlib.Core.Bool.{Bool, false, not, cond}
 use mathlib.Core.List.{List, [], _∷_}
 use Rattle.model.specs.Sets.{Lines, listed, bit}
 use Rattle.model.specs.Task.{Block, Task}
 use Rattle.model.specs.Lines.{lineOf, onLine, sameBlock, evicted}
 use Rattle.model.specs.declared.Line.{Line}
 use Rattle.model.specs.declared.Line.the-variants.{Empty, Held}
+use Rattle.model.specs.declared.Mapping.{Mapping}
+use Rattle.model.specs.declared.Mapping.the-variants.{Uncached, Cached}
 
 -- a cache: the state of each line
 abbrev pub Cache : Type 0
@@ -17,9 +19,13 @@ Cache = ℕ → Line
 abbrev pub emptyCache : Cache
 emptyCache c = Empty
 
--- a read is a hit if its line holds its number, otherwise a miss
+-- a read is a hit if its line holds its number, otherwise a miss; a read of a number on no line is neither (document 02, item 5)
+abbrev pub missAt : Cache → ℕ → Mapping → Bool
+missAt s m Uncached = false
+missAt s m (Cached c) = not (sameBlock (s c) (Held m))
+
 unfoldable pub miss : Task → Cache → ℕ → Bool
-miss t s m = not (sameBlock (s (lineOf t m)) (Held m))
+miss t s m = missAt s m (lineOf t m)
 
 -- either way the line then holds it
 unfoldable pub fetch : Task → Cache → ℕ → Cache

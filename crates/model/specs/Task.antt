@@ -14,12 +14,14 @@ pub record Preempter : Type 0 where
   pub id : ℕ
   pub reads : List ℕ
 
--- lineCount is S, limit Q, reload R
+-- lineCount is S, limit Q, reload R; the memory blocks that bypass the cache are scratchCount numbers from scratchFirst on (document 02, item 5)
 pub record Task : Type 0 where
   pub id : ℕ
   pub lineCount : ℕ
   pub limit : ℕ
   pub reload : ℕ
+  pub scratchFirst : ℕ
+  pub scratchCount : ℕ
   pub blocks : List Block
   pub preempters : List Preempter
 

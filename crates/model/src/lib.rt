@@ -6,6 +6,12 @@ pub enum Line {
     Held(u32),
 }
 
+// Where a memory block lies: on a line of the cache, or on none.
+pub enum Mapping {
+    Uncached,
+    Cached(usize),
+}
+
 // The next read of a line: a memory block's number, or none.
 pub enum Next {
     Read(u32),

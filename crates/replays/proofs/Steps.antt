@@ -15,12 +15,14 @@ use lib.Seq.{drop-cons, drop-length, getD-drop, getD-set-same, getD-set-other}
 use borrow.Author.Tests.{eq-eqb, ne-eqb, eqb-true, eqb-false, ltb-true, lt-ltb, le-leb, lt-leb}
 use Rattle.model.specs.Sets.{Lines, listed, bit}
 use Rattle.model.specs.Task.{Task, blockCount}
-use Rattle.model.specs.Lines.{lineOf, onLine, sameBlock, blockAt, evicted}
+use Rattle.model.specs.Lines.{lineOf, sameBlock, blockAt, evicted}
 use Rattle.model.specs.Lists.{steps, every, rightPoint}
 use Rattle.model.specs.Replay.{Cache, emptyCache, miss, fetch, misses, after, emptied, atEdge, walk, missesAlone, missesWith}
 use Rattle.model.specs.declared.Line.{Line}
 use Rattle.model.specs.declared.Line.the-variants.{Empty, Held}
+use Rattle.model.specs.declared.Mapping.the-variants.{Uncached, Cached}
 use Rattle.replays.specs.declared.Passed.{Passed}
+use Rattle.model.proofs.LineStates.{lies-on, lies-nowhere}
 use Rattle.model.proofs.Lists.{and-split}
 use Rattle.model.proofs.Replay.{none-before, empty-loses}
 
@@ -52,28 +54,34 @@ walk-block : (t : Task) (ps : List ℕ) (s : Cache) (i : ℕ) → i < blockCount
 unfolding walk blockAt
 walk-block t ps s i h = rw (drop-cons (t .blocks) i (record { time = 0; reads = [] }) h) refl
 
+-- a read of m on no line
+read-nowhere : (t : Task) (m : ℕ) (s : Cache) → lineOf t m ≡ Uncached → fetch t s m ≡ s
+unfolding fetch
+read-nowhere t m s at = fun-ext (λ c. rw (lies-nowhere t m at c) refl)
+
 -- a read of m on its line in an array
-module _ (t : Task) (m line : ℕ) (at : line ≡ lineOf t m) (held : List Line) (inside : line < length held) where
+module _ (t : Task) (m line : ℕ) (at : lineOf t m ≡ Cached line) (held : List Line) (inside : line < length held) where
   read-held : fetch t (cacheIn held) m ≡ cacheIn (set held line (Held m))
-  unfolding fetch onLine
+  unfolding fetch
   read-held =
       fun-ext
       (λ c.
       by-cases (ℕ-discrete c line)
-      (λ e. rw (eq-eqb c (lineOf t m) (e ∙ at), e) (sym (getD-set-same held line (Held m) Empty inside)))
-      (λ n. rw (ne-eqb c (lineOf t m) (λ e. n (e ∙ sym at))) (sym (getD-set-other held line c (Held m) Empty n))))
+      (λ e. rw (lies-on t m line at c, eq-eqb c line e, e) (sym (getD-set-same held line (Held m) Empty inside)))
+      (λ n. rw (lies-on t m line at c, ne-eqb c line n) (sym (getD-set-other held line c (Held m) Empty n))))
 
   -- the line is read after the last point
   read-lost : (marks : List Bool) (since : List ℕ) (last k : ℕ) → line < length since → last < k
       → fetch t (emptied (lostIn marks since last) (cacheIn held)) m ≡ emptied (lostIn marks (set since line k) last) (cacheIn (set held line (Held m)))
-  unfolding fetch onLine emptied
+  unfolding fetch emptied
   read-lost marks since last k l h =
       fun-ext
       (λ c.
       by-cases (ℕ-discrete c line)
       (λ e.
       rw (
-        eq-eqb c (lineOf t m) (e ∙ at),
+        lies-on t m line at c,
+        eq-eqb c line e,
         e,
         getD-set-same since line k 0 l,
         lt-leb k last h,
@@ -81,7 +89,7 @@ module _ (t : Task) (m line : ℕ) (at : line ≡ lineOf t m) (held : List Line)
         getD-set-same held line (Held m) Empty inside,
       ) refl)
       (λ n.
-      rw (ne-eqb c (lineOf t m) (λ e. n (e ∙ sym at)), getD-set-other since line c k 0 n, getD-set-other held line c (Held m) Empty n) refl))
+      rw (lies-on t m line at c, ne-eqb c line n, getD-set-other since line c k 0 n, getD-set-other held line c (Held m) Empty n) refl))
 
 module _ (t : Task) (ps : List ℕ) (marks : List Bool) where
   -- at edge i: the counts, and what the blocks after it are still to add
@@ -132,9 +140,28 @@ module _ (t : Task) (ps : List ℕ) (marks : List Bool) where
         preempted-is = w .preempted-is ∙ ap (λ (n : ℕ). b + n) (walk-block t ps _ i h);
       }
 
+  next-read : (i j m : ℕ) → j < length (blockAt t i .reads) → getD (blockAt t i .reads) j 0 ≡ m
+      → drop j (blockAt t i .reads) ≡ m ∷ drop (j + 1) (blockAt t i .reads)
+  next-read i j m hj em = drop-cons (blockAt t i .reads) j 0 hj ∙ rw (em, add-one) refl
+
+  -- read j, of number m on no line
+  pub read-skip : {i j last alone preempted : ℕ} {held : List Line} {since : List ℕ} (m : ℕ) → j < length (blockAt t i .reads)
+      → getD (blockAt t i .reads) j 0 ≡ m → lineOf t m ≡ Uncached → InBlock i j held since last alone preempted
+      → InBlock i (j + 1) held since last alone preempted
+  unfolding miss
+  read-skip {i} {j} {last} {alone} {preempted} {held} {since} m hj em at w =
+      record {
+        long-held = w .long-held;
+        long-since = w .long-since;
+        recent = w .recent;
+        passed = w .passed;
+        alone-is = w .alone-is ∙ rw (next-read i j m hj em) (rest-read t [] _ _ m _ (suc i) alone 0 (rw at refl) (read-nowhere t m _ at) ∙ rw add-zero refl);
+        preempted-is = w .preempted-is ∙ rw (next-read i j m hj em) (rest-read t ps _ _ m _ (suc i) preempted 0 (rw at refl) (read-nowhere t m _ at) ∙ rw add-zero refl);
+      }
+
   -- read j, of number m on this line; x and y are its misses
   pub read-more : {i j last alone preempted : ℕ} {held : List Line} {since : List ℕ} (m line k x y : ℕ) → j < length (blockAt t i .reads)
-      → getD (blockAt t i .reads) j 0 ≡ m → line < 512 → line ≡ lineOf t m → k ≡ suc i
+      → getD (blockAt t i .reads) j 0 ≡ m → line < 512 → lineOf t m ≡ Cached line → k ≡ suc i
       → x ≡ bit (not (sameBlock (getD held line Empty) (Held m)))
       → y ≡ bit (not (sameBlock (cond (lostIn marks since last line) Empty (getD held line Empty)) (Held m)))
       → InBlock i j held since last alone preempted
@@ -149,19 +176,16 @@ module _ (t : Task) (ps : List ℕ) (marks : List Bool) where
             by-cases (ℕ-discrete c line) (λ e. rw (e, getD-set-same since line k 0 (omega (arith, w .long-since))) (omega arith))
             (λ n. rw (getD-set-other since line c k 0 n) (w .recent c));
         passed = w .passed;
-        alone-is = w .alone-is ∙ rw next (rest-read t [] _ _ m _ (suc i) alone x (rw (← at) ex) (read-held t m line at held in-held));
+        alone-is = w .alone-is ∙ rw (next-read i j m hj em) (rest-read t [] _ _ m _ (suc i) alone x (rw at ex) (read-held t m line at held in-held));
         preempted-is =
             w .preempted-is ∙
-            rw next
-            (rest-read t ps _ _ m _ (suc i) preempted y (rw (← at) ey)
+            rw (next-read i j m hj em)
+            (rest-read t ps _ _ m _ (suc i) preempted y (rw at ey)
             (read-lost t m line at held in-held marks since last k (omega (arith, w .long-since)) (omega (arith, w .passed))));
       }
     where
       in-held : line < length held
       in-held = omega (arith, w .long-held)
-
-      next : drop j (blockAt t i .reads) ≡ m ∷ drop (j + 1) (blockAt t i .reads)
-      next = drop-cons (blockAt t i .reads) j 0 hj ∙ rw (em, add-one) refl
 
   pub at-end : {last alone preempted : ℕ} {held : List Line} {since : List ℕ} (i : ℕ) → i ≡ blockCount t → AtEdge i held since last alone preempted
       → (missesAlone t ≡ alone) × (missesWith t ps ≡ preempted)

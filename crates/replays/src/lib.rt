@@ -12,6 +12,7 @@ ghost use Rattle.model.specs.Replay.{missesAlone, missesWith};
 ghost use Rattle.taskfile.specs.File.{verdict, taskOf};
 ghost use Rattle.replays.specs.Calls.{replayVerdict, missesAloneOf, missesWithOf};
 use model::Line;
+use model::Mapping;
 use model::Place;
 use model::Refusal;
 use model::Verdict;
@@ -79,13 +80,17 @@ fn count_misses(file: &[u8], points: &[u16]) -> Misses
         let mut j = 0;
         while j < reads {
             let number = taskfile::read(file, k, j);
-            let c = cache.line_of(number);
-            let line = held[c];
-            let lost = is_lost(evicted[c], since[c], last);
-            alone += missed(line, number, false);
-            preempted += missed(line, number, lost);
-            held[c] = Line::Held(number);
-            since[c] = k;
+            match cache.line_of(number) {
+                Mapping::Uncached => {}
+                Mapping::Cached(c) => {
+                    let line = held[c];
+                    let lost = is_lost(evicted[c], since[c], last);
+                    alone += missed(line, number, false);
+                    preempted += missed(line, number, lost);
+                    held[c] = Line::Held(number);
+                    since[c] = k;
+                }
+            }
             j += 1;
         }
         passed = pass(passed, points, k);

@@ -13,7 +13,7 @@ use lib.ListN.{length, getD, set, take, replicate, length-set}
 use lib.Seq.{getD-set-same, getD-set-other, drop-nil, take-length, take-all}
 use borrow.Author.Tests.{eq-eqb, ne-eqb, le-ltb}
 use Rattle.model.specs.Task.{Task, blockCount}
-use Rattle.model.specs.Lines.{lineOf, onLine, lastRead, firstRead, anyRead, sameBlock, blockAt, stateAfter, nextRead, useful, accessed}
+use Rattle.model.specs.Lines.{onLine, lastRead, firstRead, anyRead, sameBlock, blockAt, stateAfter, nextRead, useful, accessed}
 use Rattle.model.specs.declared.Line.{Line}
 use Rattle.model.specs.declared.Line.the-variants.{Empty, Held}
 use Rattle.model.proofs.LineStates.{never-empty, useful-beyond, any-take}
@@ -30,49 +30,58 @@ pub record Walked (t : Task) (p : ℕ) (held : List Line) (since : List ℕ) (se
   pub long : length sets ≡ 1048
   pub kept : (c : ℕ) → c < 512 → Kept (allReads t) (edge t) (onLine t c) p (getD held c Empty) (getD since c 0) (λ k. toggledAt sets k c)
 
--- read j of block b, of number m on this line; it is toggled at the edges from since[line] up to b if it held m already
-pub walked-more : (t : Task) (i j b m line q : ℕ) (held : List Line) (since sets sets′ : List ℕ) → i < blockCount t → j < length (blockAt t i .reads)
-    → b ≡ suc i → getD (blockAt t i .reads) j 0 ≡ m → line < 512 → line ≡ lineOf t m → q ≡ suc (edge t i + j) → length sets′ ≡ 1048
-    → ((k d : ℕ) → toggledAt sets′ k d
-    ≡ xor (toggledAt sets k d) (sameBlock (getD held line Empty) (Held m) && eqb d line && (leb (getD since line 0) k && ltb k b)))
-    → Walked t (edge t i + j) held since sets → Walked t q (set held line (Held m)) (set since line b) sets′
-unfolding onLine
-walked-more t i j b m line q held since sets sets′ hi hj eb em hl at eq long added w =
-    rw eq
-    (record {
-      long-held = length-set held line _ ∙ w .long-held;
-      long-since = length-set since line _ ∙ w .long-since;
-      long = long;
-      kept = λ c h. by-cases (ℕ-discrete c line) (λ e. subst KeptAt (sym e) on-it) (λ n. off-it c h n);
-    })
-  where
-    inside : edge t i + j < length (allReads t)
-    inside = omega (arith, edge-rises t (suc i) (blockCount t) hi, edge-suc t i hi, edge-end t)
+-- read j of block b, of number m
+module _ (t : Task) (i j b m q : ℕ) (hi : i < blockCount t) (hj : j < length (blockAt t i .reads)) (eb : b ≡ suc i) (em : getD (blockAt t i .reads) j 0 ≡ m)
+    (eq : q ≡ suc (edge t i + j)) (held : List Line) (since sets : List ℕ) where
+  inside : edge t i + j < length (allReads t)
+  inside = omega (arith, edge-rises t (suc i) (blockCount t) hi, edge-suc t i hi, edge-end t)
 
-    before : (k : ℕ) → k < b → edge t k ≤ edge t i + j
-    before k h = omega (arith, edge-rises t k i (omega arith))
+  before : (k : ℕ) → k < b → edge t k ≤ edge t i + j
+  before k h = omega (arith, edge-rises t k i (omega arith))
 
-    after : (k : ℕ) → b ≤ k → edge t i + j < edge t k
-    after k h = omega (arith, edge-rises t (suc i) k (omega arith), edge-suc t i hi)
+  after : (k : ℕ) → b ≤ k → edge t i + j < edge t k
+  after k h = omega (arith, edge-rises t (suc i) k (omega arith), edge-suc t i hi)
 
-    KeptAt : ℕ → Type 0
-    KeptAt c =
-        Kept (allReads t) (edge t) (onLine t c) (suc (edge t i + j)) (getD (set held line (Held m)) c Empty) (getD (set since line b) c 0)
-        (λ k. toggledAt sets′ k c)
+  -- what is kept of a line on which m does not lie
+  off-line : (c : ℕ) → c < 512 → onLine t c m ≡ false → Walked t (edge t i + j) held since sets
+      → Kept (allReads t) (edge t) (onLine t c) (suc (edge t i + j)) (getD held c Empty) (getD since c 0) (λ k. toggledAt sets k c)
+  off-line c h off w = other (allReads t) (edge t) (onLine t c) (edge t i + j) b m inside (read-at t i j hi hj ∙ em) before after off (w .kept c h)
 
-    on-it : KeptAt line
-    on-it =
-        retold (allReads t) (edge t) (onLine t line) (getD-set-same held line (Held m) Empty (omega (arith, w .long-held)))
-        (getD-set-same since line b 0 (omega (arith, w .long-since)))
-        (λ k u. added k line ∙ rw (eq-eqb line line refl, and-true) refl)
-        (this (allReads t) (edge t) (onLine t line) (edge t i + j) b m inside (read-at t i j hi hj ∙ em) before after (eq-eqb line (lineOf t m) at) (w .kept line hl))
+  -- m lies on no line
+  pub walked-skip : ((d : ℕ) → onLine t d m ≡ false) → Walked t (edge t i + j) held since sets → Walked t q held since sets
+  walked-skip at w =
+      rw eq (record { long-held = w .long-held; long-since = w .long-since; long = w .long; kept = λ c h. off-line c h (at c) w })
 
-    off-it : (c : ℕ) → c < 512 → (c ≡ line → ⊥) → KeptAt c
-    off-it c h n =
-        retold (allReads t) (edge t) (onLine t c) (getD-set-other held line c (Held m) Empty n) (getD-set-other since line c b 0 n)
-        (λ k u. added k c ∙ rw (ne-eqb c line n, and-false) (xor-false (toggledAt sets k c)))
-        (other (allReads t) (edge t) (onLine t c) (edge t i + j) b m inside (read-at t i j hi hj ∙ em) before after
-        (ne-eqb c (lineOf t m) (λ e. n (e ∙ sym at))) (w .kept c h))
+  -- m lies on this line; it is toggled at the edges from since[line] up to b if it held m already
+  pub walked-more : (line : ℕ) (sets′ : List ℕ) → line < 512 → ((d : ℕ) → onLine t d m ≡ eqb d line) → length sets′ ≡ 1048
+      → ((k d : ℕ) → toggledAt sets′ k d
+      ≡ xor (toggledAt sets k d) (sameBlock (getD held line Empty) (Held m) && eqb d line && (leb (getD since line 0) k && ltb k b)))
+      → Walked t (edge t i + j) held since sets → Walked t q (set held line (Held m)) (set since line b) sets′
+  walked-more line sets′ hl at long added w =
+      rw eq
+      (record {
+        long-held = length-set held line _ ∙ w .long-held;
+        long-since = length-set since line _ ∙ w .long-since;
+        long = long;
+        kept = λ c h. by-cases (ℕ-discrete c line) (λ e. subst KeptAt (sym e) on-it) (λ n. off-it c h n);
+      })
+    where
+      KeptAt : ℕ → Type 0
+      KeptAt c =
+          Kept (allReads t) (edge t) (onLine t c) (suc (edge t i + j)) (getD (set held line (Held m)) c Empty) (getD (set since line b) c 0)
+          (λ k. toggledAt sets′ k c)
+
+      on-it : KeptAt line
+      on-it =
+          retold (allReads t) (edge t) (onLine t line) (getD-set-same held line (Held m) Empty (omega (arith, w .long-held)))
+          (getD-set-same since line b 0 (omega (arith, w .long-since)))
+          (λ k u. added k line ∙ rw (eq-eqb line line refl, and-true) refl)
+          (this (allReads t) (edge t) (onLine t line) (edge t i + j) b m inside (read-at t i j hi hj ∙ em) before after (at line ∙ eq-eqb line line refl) (w .kept line hl))
+
+      off-it : (c : ℕ) → c < 512 → (c ≡ line → ⊥) → KeptAt c
+      off-it c h n =
+          retold (allReads t) (edge t) (onLine t c) (getD-set-other held line c (Held m) Empty n) (getD-set-other since line c b 0 n)
+          (λ k u. added k c ∙ rw (ne-eqb c line n, and-false) (xor-false (toggledAt sets k c))) (off-line c h (at c ∙ ne-eqb c line n) w)
 
 -- before the first read no line holds a number, and no line is known to be useful
 pub walked-none : (t : Task) (held : List Line) (since sets : List ℕ) → length held ≡ 512 → length since ≡ 512
@@ -155,21 +164,30 @@ gathered-same t i j sets sets′ same g =
 
 -- read j of block b, of number m on this line
 pub gathered-more : (t : Task) (i j b m line : ℕ) (sets sets′ : List ℕ) → j < length (blockAt t i .reads) → b ≡ 65 + suc i
-    → getD (blockAt t i .reads) j 0 ≡ m → line ≡ lineOf t m
+    → getD (blockAt t i .reads) j 0 ≡ m → ((d : ℕ) → onLine t d m ≡ eqb d line)
     → ((e d : ℕ) → linesAt sets′ e d ≡ (linesAt sets e d || eqb d line && eqb e b)) → Gathered t i j sets → Gathered t i (j + 1) sets′
-unfolding onLine
 gathered-more t i j b m line sets sets′ hj eb em at added g =
     record {
       passed = λ e c h. same (65 + e) c (omega arith) ∙ g .passed e c h;
       here =
           λ c h.
-          added (65 + suc i) c ∙ rw (eq-eqb (65 + suc i) b (sym eb), and-true, at, ← em)
+          added (65 + suc i) c ∙ rw (eq-eqb (65 + suc i) b (sym eb), and-true, ← (at c), ← em)
           (ap (λ (x : Bool). x || onLine t c (getD (blockAt t i .reads) j 0)) (g .here c h) ∙ sym (any-take (onLine t c) (blockAt t i .reads) j hj));
       ahead = λ e c h l. same (65 + e) c (omega arith) ∙ g .ahead e c h l;
     }
   where
     same : (e c : ℕ) → (e ≡ b → ⊥) → linesAt sets′ e c ≡ linesAt sets e c
     same e c n = added e c ∙ elsewhere _||_ or-false (linesAt sets e c) (eqb c line) e b n
+
+-- read j of the block, of number m on no line
+pub gathered-skip : (t : Task) (i j m : ℕ) (sets : List ℕ) → j < length (blockAt t i .reads) → getD (blockAt t i .reads) j 0 ≡ m
+    → ((d : ℕ) → onLine t d m ≡ false) → Gathered t i j sets → Gathered t i (j + 1) sets
+gathered-skip t i j m sets hj em at g =
+    record {
+      passed = g .passed;
+      here = λ c h. g .here c h ∙ sym (any-take (onLine t c) (blockAt t i .reads) j hj ∙ rw (em, at c) (or-false _));
+      ahead = g .ahead;
+    }
 
 -- the block's last read is passed
 pub gathered-block : (t : Task) (i j : ℕ) (sets : List ℕ) → i < 64 → length (blockAt t i .reads) ≤ j → Gathered t i j sets → Gathered t (suc i) 0 sets

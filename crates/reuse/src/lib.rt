@@ -6,16 +6,17 @@ ghost use Prim.Native.Nat.{ℕ, _+_, _<_, _≤_};
 ghost use lib.Dec.{eqb, leb, ltb};
 ghost use lib.ListN.{length, getD, replicate};
 ghost use Rattle.model.specs.Task.{blockCount};
-ghost use Rattle.model.specs.Lines.{onLine, firstRead, lookedAt, anyRead, sameBlock, stateAfter, nextRead, readsLookedAt, asNext, evicted};
+ghost use Rattle.model.specs.Lines.{isLine, onLine, firstRead, lookedAt, anyRead, sameBlock, stateAfter, nextRead, readsLookedAt, asNext, evicted};
 ghost use Rattle.model.specs.Lines as Lines;
 ghost use Rattle.lineset.specs.Members.{members};
 ghost use Rattle.taskfile.specs.File.{verdict, header, taskOf, entryReads};
-ghost use Rattle.cacheline.specs.Caches.{CacheOf};
+ghost use Rattle.cacheline.specs.Caches.{CacheOf, WithinCache};
 ghost use Rattle.edgesets.specs.Edges.{linesAt, toggledAt};
 ghost use Rattle.reuse.specs.Ready.{Ready, Collected};
 use cacheline::Cache;
 use lineset::LineSet;
 use model::Line;
+use model::Mapping;
 use model::Next;
 use model::Verdict;
 
@@ -131,8 +132,12 @@ fn held_after(file: &[u8], cache: Cache, k: usize) -> [Line; 512]
         let mut j = 0;
         while j < reads {
             let number = taskfile::read(file, b, j);
-            let c = cache.line_of(number);
-            held[c] = Line::Held(number);
+            match cache.line_of(number) {
+                Mapping::Uncached => {}
+                Mapping::Cached(c) => {
+                    held[c] = Line::Held(number);
+                }
+            }
             j += 1;
         }
         i += 1;
@@ -201,9 +206,21 @@ fn mark_reads(marks: &mut [bool; 512], file: &[u8], cache: Cache, k: usize)
     let reads = taskfile::read_count(file, k);
     let mut j = 0;
     while j < reads {
-        let c = cache.line_of(taskfile::read(file, k, j));
-        marks[c] = true;
+        let mapping = cache.line_of(taskfile::read(file, k, j));
+        mark(marks, mapping);
         j += 1;
+    }
+}
+
+// Marks a line, if there is one.
+fn mark(marks: &mut [bool; 512], mapping: Mapping)
+    requires { ⌜ (length (now marks) ≡ 512) × WithinCache mapping ⌝ }
+    ensures { λ _. ⌜ length (now (marks .exit)) ≡ 512 ⌝ }
+    ensures { λ _. ⌜ ((d : ℕ) → d < 512 → getD (now (marks .exit)) d false ≡ (getD (now (marks .entry)) d false || isLine d mapping)) ⌝ }
+{
+    match mapping {
+        Mapping::Uncached => {}
+        Mapping::Cached(c) => marks[c] = true,
     }
 }
 
@@ -245,12 +262,16 @@ fn walk_reads(file: &[u8], sets: &mut [u64; 1048])
         let mut j = 0;
         while j < reads {
             let number = taskfile::read(file, k, j);
-            let c = cache.line_of(number);
-            let line = held[c];
-            add_reread(sets, line, number, c, since[c], k);
-            edgesets::add_line(sets, c, ACCESSED + k);
-            held[c] = Line::Held(number);
-            since[c] = k;
+            match cache.line_of(number) {
+                Mapping::Uncached => {}
+                Mapping::Cached(c) => {
+                    let line = held[c];
+                    add_reread(sets, line, number, c, since[c], k);
+                    edgesets::add_line(sets, c, ACCESSED + k);
+                    held[c] = Line::Held(number);
+                    since[c] = k;
+                }
+            }
             j += 1;
         }
         i += 1;

@@ -51,10 +51,11 @@ pub record AcceptedFile (file : List ℕ) : Type 0 where
 pub in-range : (t : Task) → headerInRange t ≡ true
     → (1 ≤ blockCount t) × (blockCount t ≤ 64) × (length (t .preempters) ≤ 32) × (1 ≤ t .lineCount) × (t .lineCount ≤ 512)
 unfolding headerInRange countsInRange
-in-range t e =
+in-range t both =
     let n : ℕ = blockCount t in
     let m : ℕ = length (t .preempters) in
     let s : ℕ = t .lineCount in
+    let e = and-split (countsInRange n m s) _ both .0 in
     let a = and-split (leb 1 n && leb n 64 && leb m 32 && leb 1 s) (leb s 512) e in
     let b = and-split (leb 1 n && leb n 64 && leb m 32) (leb 1 s) (a .0) in
     let c = and-split (leb 1 n && leb n 64) (leb m 32) (b .0) in

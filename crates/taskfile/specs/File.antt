@@ -59,14 +59,17 @@ taskOf file =
       limit = field file 8 4;
       reload = field file 12 4;
       id = field file 16 4;
+      scratchFirst = field file 20 4;
+      scratchCount = field file 24 4;
       blocks = collect (λ k. basicOf (blockIn file k)) 1 (header file .blocks);
       preempters = collect (λ k. preempterOf (blockIn file k)) (1 + header file .blocks) (header file .preempters);
     }
 
--- writing: the header's numbers from byte 0 on, each behind its width: kind 1, a zero, N, M, S, Q, R and the task's id
+-- writing: the header's numbers from byte 0 on, each behind its width: kind 1, a zero, N, M, S, Q, R, the task's id and the scratch range
 unfoldable pub headerNumbers : Task → List Sized
 headerNumbers t =
-    (1, 1) ∷ (1, 0) ∷ (2, blockCount t) ∷ (2, length (t .preempters)) ∷ (2, t .lineCount) ∷ (4, t .limit) ∷ (4, t .reload) ∷ (4, t .id) ∷ []
+    (1, 1) ∷ (1, 0) ∷ (2, blockCount t) ∷ (2, length (t .preempters)) ∷ (2, t .lineCount) ∷ (4, t .limit) ∷ (4, t .reload) ∷ (4, t .id) ∷
+    (4, t .scratchFirst) ∷ (4, t .scratchCount) ∷ []
 
 -- basic blocks and preempter blocks have one layout: kind, byte 1, the count of the reads, a number x (a time or an id), and the reads
 unfoldable pub entryBytes : ℕ → ℕ → ℕ → List ℕ → List ℕ
@@ -105,11 +108,15 @@ sumRight file k = checksumRight (blockIn file k)
 unfoldable pub countsInRange : ℕ → ℕ → ℕ → Bool
 countsInRange n m s = leb 1 n && leb n 64 && leb m 32 && leb 1 s && leb s 512
 
--- the ranges of a task's N, M and S; Q, R and id are free
-unfoldable pub headerInRange : Task → Bool
-headerInRange t = countsInRange (blockCount t) (length (t .preempters)) (t .lineCount)
+-- the scratch range ends with the last memory block of four bytes or before: first plus count, a sum of numbers (document 02, item 5)
+unfoldable pub scratchInRange : ℕ → ℕ → Bool
+scratchInRange first count = leb (first + count) 4294967296
 
--- the header is right: N, M and S, and then its kind, its number and its zero bytes, since its bytes are those that its task's numbers make
+-- the ranges of a task's N, M, S and scratch range; Q, R and id are free
+unfoldable pub headerInRange : Task → Bool
+headerInRange t = countsInRange (blockCount t) (length (t .preempters)) (t .lineCount) && scratchInRange (t .scratchFirst) (t .scratchCount)
+
+-- the header is right: N, M, S and the scratch range, and then its kind, its number and its zero bytes, since its bytes are those that its task's numbers make
 unfoldable pub headerRight : List ℕ → Bool
 headerRight file = headerInRange (taskOf file) && bodyRight 0 (packed (headerNumbers (taskOf file))) (blockIn file 0)
 

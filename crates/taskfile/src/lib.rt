@@ -5,13 +5,13 @@ ghost use lib.ListN.{length, getD};
 ghost use Rattle.model.specs.Answers.{andThen};
 ghost use Rattle.model.specs.Task.{blockCount};
 ghost use Rattle.model.specs.Lines.{blockAt};
-ghost use Rattle.taskfile.specs.File.{blockIn, header, entryReads, taskOf, lengthRight, countsInRange, headerRight, entryRight, blockRight, checksumRow, headerRow, countRow, blockRow, verdict};
+ghost use Rattle.taskfile.specs.File.{blockIn, header, entryReads, taskOf, lengthRight, countsInRange, scratchInRange, headerInRange, headerRight, entryRight, blockRight, checksumRow, headerRow, countRow, blockRow, verdict};
 ghost use Rattle.taskfile.specs.Steps.{fourRight, LeftToTest};
 use model::Refusal;
 use model::Verdict;
 
 // Where the header's named bytes end.
-const HEADER_END: usize = 20;
+const HEADER_END: usize = 28;
 
 // The answer to any bytes.
 pub fn check(file: &[u8]) -> Verdict
@@ -109,6 +109,17 @@ fn header_right(file: &[u8]) -> bool
     requires { ⌜ 512 ≤ length (now file) ⌝ }
     ensures { λ r. ⌜ r ≡ headerRight (now (file .entry)) ⌝ }
 {
+    if !header_in_range(file) {
+        return false;
+    }
+    block::body_right(block_at(file, 0), 0, 1, 0, HEADER_END)
+}
+
+// Whether a header's numbers are in their ranges.
+fn header_in_range(file: &[u8]) -> bool
+    requires { ⌜ 512 ≤ length (now file) ⌝ }
+    ensures { λ r. ⌜ r ≡ headerInRange (taskOf (now (file .entry))) ⌝ }
+{
     if !counts_in_range(
         block::u16_at(file, 2) as u32,
         block::u16_at(file, 4) as u32,
@@ -116,7 +127,14 @@ fn header_right(file: &[u8]) -> bool
     ) {
         return false;
     }
-    block::body_right(block_at(file, 0), 0, 1, 0, HEADER_END)
+    scratch_in_range(block::u32_at(file, 20), block::u32_at(file, 24))
+}
+
+// Whether a range of so many memory blocks from the first on has none of 2^32 or more.
+fn scratch_in_range(first: u32, count: u32) -> bool
+    ensures { λ r. ⌜ r ≡ scratchInRange first count ⌝ }
+{
+    first as u64 + count as u64 <= 4294967296
 }
 
 // Whether N, M and S are in their ranges.
@@ -240,6 +258,22 @@ pub fn id(file: &[u8]) -> u32
     ensures { λ r. ⌜ r ≡ taskOf (now (file .entry)) .id ⌝ }
 {
     block::u32_at(file, 16)
+}
+
+// The first memory block of the scratch range.
+pub fn scratch_first(file: &[u8]) -> u32
+    requires { ⌜ verdict (now file) ≡ Verdict.Accepted ⌝ }
+    ensures { λ r. ⌜ r ≡ taskOf (now (file .entry)) .scratchFirst ⌝ }
+{
+    block::u32_at(file, 20)
+}
+
+// How many memory blocks the scratch range has.
+pub fn scratch_count(file: &[u8]) -> u32
+    requires { ⌜ verdict (now file) ≡ Verdict.Accepted ⌝ }
+    ensures { λ r. ⌜ r ≡ taskOf (now (file .entry)) .scratchCount ⌝ }
+{
+    block::u32_at(file, 24)
 }
 
 // The time of basic block i + 1.

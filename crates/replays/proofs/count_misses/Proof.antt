@@ -1,10 +1,11 @@
 -- `replays::count_misses` meets its contract. Both loops keep the walk's state after the blocks and reads passed, and the points that are left.
 -- Assumes nothing.
 use Prim.Native.Nat.{_+_, _-_, _*_, _≤_, _<_}
-use mathlib.Core.Path.{refl, sym, _∙_}
+use mathlib.Core.Path.{_≡_, refl, sym, _∙_}
+use mathlib.Core.Logic.{⊎-elim}
 use native.Mathlib.Omega.{arith}
 use native.Mathlib.Numerals.{add-one}
-use lib.ListN.{length}
+use lib.ListN.{length, getD}
 use borrow.Author.Needs.{needs}
 use Rattle.model.specs.Task.{blockCount}
 use Rattle.model.specs.Lines.{blockAt}
@@ -12,7 +13,8 @@ use Rattle.model.specs.Lists.{steps, rightPoint}
 use Rattle.model.proofs.Lists.{none-lowest}
 use Rattle.taskfile.specs.File.{taskOf}
 use Rattle.taskfile.proofs.Accepted as accepted-file
-use Rattle.replays.proofs.Steps.{AtEdge, InBlock, PointsLeft, at-start, enter, read-more, pass-edge, at-end}
+use Rattle.cacheline.proofs.Below.{line-below}
+use Rattle.replays.proofs.Steps.{AtEdge, InBlock, PointsLeft, at-start, enter, read-skip, read-more, pass-edge, at-end}
 use Rattle.replays.proofs.count_misses.Statement.{statement}
 use Rattle.replays.proofs.count_misses.Tie as tie
 
@@ -73,20 +75,30 @@ read-requires c κs =
 line-of-requires : tie.Need-line-of-requires Inv-loop2 μ-loop2 Inv-loop μ-loop
 line-of-requires c κs = search needs
 
+enum-told : tie.Need-enum-told Inv-loop2 μ-loop2 Inv-loop μ-loop
+enum-told c = search needs
+
+enum-known-c : tie.Need-enum-known-c Inv-loop2 μ-loop2 Inv-loop μ-loop
+enum-known-c c = search needs
+
+-- the line is one of the arrays
+below : (c : tie.After-known-told Inv-loop2 μ-loop2 Inv-loop μ-loop) → c .before .c .given .0 .0 < 512
+below c = let line = c .before .before .before .line-of in line-below (line .result) (c .before .c .given .0 .0) (c .before .c .given .1) (line .ensures .1)
+
 mul-line : tie.Need-mul-line Inv-loop2 μ-loop2 Inv-loop μ-loop
-mul-line c = omega arith
+mul-line c = omega (arith, below c)
 
 array-copy-out-line : tie.Need-array-copy-out-line Inv-loop2 μ-loop2 Inv-loop μ-loop
-array-copy-out-line c = omega arith
+array-copy-out-line c = omega (arith, below c)
 
 array-read-is-lost : tie.Need-array-read-is-lost Inv-loop2 μ-loop2 Inv-loop μ-loop
-array-read-is-lost c = omega arith
+array-read-is-lost c = omega (arith, below (c .before))
 
 mul-is-lost : tie.Need-mul-is-lost Inv-loop2 μ-loop2 Inv-loop μ-loop
-mul-is-lost c = omega arith
+mul-is-lost c = omega (arith, below (c .before))
 
 array-read-is-lost-2 : tie.Need-array-read-is-lost-2 Inv-loop2 μ-loop2 Inv-loop μ-loop
-array-read-is-lost-2 c = omega arith
+array-read-is-lost-2 c = omega (arith, below (c .before))
 
 is-lost-requires : tie.Need-is-lost-requires Inv-loop2 μ-loop2 Inv-loop μ-loop
 is-lost-requires c κs = search needs
@@ -104,16 +116,16 @@ add-preempted : tie.Need-add-preempted Inv-loop2 μ-loop2 Inv-loop μ-loop
 add-preempted c = omega arith
 
 mul-held : tie.Need-mul-held Inv-loop2 μ-loop2 Inv-loop μ-loop
-mul-held c = omega arith
+mul-held c = omega (arith, below (c .before .before .before .before))
 
 array-set-from-held : tie.Need-array-set-from-held Inv-loop2 μ-loop2 Inv-loop μ-loop
-array-set-from-held c = omega arith
+array-set-from-held c = omega (arith, below (c .before .before .before .before))
 
 mul-since : tie.Need-mul-since Inv-loop2 μ-loop2 Inv-loop μ-loop
-mul-since c = omega arith
+mul-since c = omega (arith, below (c .before .before .before .before))
 
 array-write-since : tie.Need-array-write-since Inv-loop2 μ-loop2 Inv-loop μ-loop
-array-write-since c = omega arith
+array-write-since c = omega (arith, below (c .before .before .before .before))
 
 add-j : tie.Need-add-j Inv-loop2 μ-loop2 Inv-loop μ-loop
 add-j c = omega arith
@@ -123,26 +135,42 @@ loop2-less c = omega arith
 
 loop2-again : tie.Need-loop2-again Inv-loop2 μ-loop2 Inv-loop μ-loop
 loop2-again c =
-    let start = c .before .before .before .before .before .before .before .before .before .before .before .before .before .before .before .before .before in
+    let turn = c .before .before .before in
+    let outer = turn .before .before .before .before .loop in
+    let inner = turn .before .loop2 in
+    let marks = turn .before .before .before .before .before .mark-evicted .last .0 in
+    let start = turn .before .before .before .before .before .before .before .before .before .before .before in
     let file = start .args .file .now in
     let t = taskOf file in
-    let cache = c .before .before .before .before .before .before .before .before .before .before .before .before .before .before .cache-of in
-    let outer = c .before .before .before .before .before .before .before .before .before .before .loop in
-    let inner = c .before .before .before .before .before .before .before .loop2 in
-    let turn = c .before .before .before .before .before .before .loop2-test .taken in
-    let number = c .before .before .before .before .before .read in
-    let line = c .before .before .before .before .line-of in
-    let lost = c .before .before .is-lost in
-    let alone = c .before .missed in
-    let inside : outer .i < blockCount t = omega (arith, c .before .before .before .before .before .before .before .before .before .loop-test .taken, c .before .before .before .before .before .before .before .before .before .before .before .before .before .block-count .ensures .0) in
+    let ps = start .args .points .now in
+    let cache = turn .before .before .before .before .before .before .before .before .cache-of in
+    let number = c .before .before .read in
+    let line = c .before .line-of in
+    let taken = turn .loop2-test .taken in
+    let inside : outer .i < blockCount t =
+    omega (arith, turn .before .before .before .loop-test .taken, turn .before .before .before .before .before .before .before .block-count .ensures .0) in
     let reads-are = accepted-file.reads-at file (outer .i) (omega (arith, accepted-file.block-count file)) in
-    let counted : inner .j < length (blockAt t (outer .i) .reads) = rw reads-are (omega (arith, turn, c .before .before .before .before .before .before .before .before .read-count .ensures .0)) in (
-      omega (arith, turn),
-      omega (arith, inner .inv .1, alone .ensures .1),
-      omega (arith, inner .inv .2, c .missed2 .ensures .1),
-      read-more t (start .args .points .now) (c .before .before .before .before .before .before .before .before .before .before .before .mark-evicted .last .0) (number .result) (line .result) (outer .i + 1) _ _ counted (rw reads-are (sym (number .ensures))) (line .ensures .1)
-          (line .ensures .0 t (cache .ensures)) (add-one (outer .i)) (alone .ensures .0) (c .missed2 .ensures .0 ∙ rw (lost .ensures) refl) (inner .inv .3),
-    )
+    let counted : inner .j < length (blockAt t (outer .i) .reads) = rw reads-are (omega (arith, taken, turn .before .before .read-count .ensures .0)) in
+    let number-is : getD (blockAt t (outer .i) .reads) (inner .j) 0 ≡ number .result = rw reads-are (sym (number .ensures)) in
+    let is = sym (line .ensures .0 t (cache .ensures)) in
+    ⊎-elim
+    (λ w.
+    rw (w .2, w .3, w .4, w .5) (
+      omega (arith, taken),
+      omega (arith, inner .inv .1),
+      omega (arith, inner .inv .2),
+      read-skip t ps marks (number .result) counted number-is (is ∙ w .1 .given .1) (inner .inv .3),
+    ))
+    (λ w.
+    let on = w .1 .given .0 .0 in
+    rw (w .7, w .8, w .9, w .10) (
+      omega (arith, taken),
+      omega (arith, inner .inv .1, w .5 .ensures .1),
+      omega (arith, inner .inv .2, w .6 .ensures .1),
+      read-more t ps marks (number .result) on (outer .i + 1) _ _ counted number-is (line-below (line .result) on (w .1 .given .1) (line .ensures .1)) (is ∙ w .1 .given .1)
+          (add-one (outer .i)) (w .5 .ensures .0) (w .6 .ensures .0 ∙ rw (w .4 .ensures) refl) (inner .inv .3),
+    ))
+    (c .match .came)
 
 pass-requires : tie.Need-pass-requires Inv-loop2 μ-loop2 Inv-loop μ-loop
 pass-requires c κs = search needs
@@ -192,6 +220,8 @@ count-misses-spec =
     loop2-holds
     read-requires
     line-of-requires
+    enum-told
+    enum-known-c
     mul-line
     array-copy-out-line
     array-read-is-lost

@@ -2,18 +2,21 @@
 -- Assumes nothing.
 use Prim.Native.Nat.{_+_, _-_, _≤_, _<_}
 use mathlib.Core.Path.{_≡_, refl, sym, _∙_}
+use mathlib.Core.Logic.{⊎-elim}
 use native.Mathlib.Nat.{add-zero, add-assoc}
 use native.Mathlib.Omega.{arith}
 use native.Mathlib.Numerals.{add-one}
-use lib.ListN.{length, replicate, getD-replicate}
+use lib.ListN.{length, getD, replicate, getD-replicate}
 use borrow.Author.Needs.{needs}
 use Rattle.model.specs.Task.{blockCount}
 use Rattle.model.specs.Lines.{blockAt, readsOf, stateAfter}
 use Rattle.model.specs.declared.Line.the-variants.{Empty}
+use Rattle.model.proofs.LineStates.{lies-on, lies-nowhere}
 use Rattle.model.proofs.ReadOrder.{edge, edge-suc, take-edge}
 use Rattle.taskfile.specs.File.{taskOf}
 use Rattle.taskfile.proofs.Accepted as accepted-file
-use Rattle.reuse.proofs.States.{Holds, holds-none, holds-more}
+use Rattle.cacheline.proofs.Below.{line-below}
+use Rattle.reuse.proofs.States.{Holds, holds-none, holds-skip, holds-more}
 use Rattle.reuse.proofs.held_after.Statement.{statement}
 use Rattle.reuse.proofs.held_after.Tie as tie
 
@@ -52,11 +55,21 @@ read-requires c κs =
 line-of-requires : tie.Need-line-of-requires Inv-loop2 μ-loop2 Inv-loop μ-loop
 line-of-requires c κs = search needs
 
+enum-told : tie.Need-enum-told Inv-loop2 μ-loop2 Inv-loop μ-loop
+enum-told c = search needs
+
+enum-known-c : tie.Need-enum-known-c Inv-loop2 μ-loop2 Inv-loop μ-loop
+enum-known-c c = search needs
+
+-- the line is one of the array
+below : (c : tie.After-known-told Inv-loop2 μ-loop2 Inv-loop μ-loop) → c .before .c .given .0 .0 < 512
+below c = let line = c .before .before .before .line-of in line-below (line .result) (c .before .c .given .0 .0) (c .before .c .given .1) (line .ensures .1)
+
 mul-held : tie.Need-mul-held Inv-loop2 μ-loop2 Inv-loop μ-loop
-mul-held c = omega arith
+mul-held c = omega (arith, below c)
 
 array-set-from-held : tie.Need-array-set-from-held Inv-loop2 μ-loop2 Inv-loop μ-loop
-array-set-from-held c = omega arith
+array-set-from-held c = omega (arith, below c)
 
 add-j : tie.Need-add-j Inv-loop2 μ-loop2 Inv-loop μ-loop
 add-j c = omega arith
@@ -66,17 +79,28 @@ loop2-less c = omega arith
 
 loop2-again : tie.Need-loop2-again Inv-loop2 μ-loop2 Inv-loop μ-loop
 loop2-again c =
-    let start = c .before .before .before .before .before .before .before .before in
+    let start = c .before .before .before .before .before .before .before .before .before in
     let file = start .args .file .now in
-    let outer = c .before .before .before .before .before .before .loop in
-    let inner = c .before .before .before .loop2 in
-    let number = c .before .read in
-    let inside : outer .i < blockCount (taskOf file) = omega (arith, start .pre .1) in
-    let reads-are = accepted-file.reads-at file (outer .i) (omega (arith, start .pre .1, accepted-file.block-count file)) in (
+    let t = taskOf file in
+    let outer = c .before .before .before .before .before .before .before .loop in
+    let inner = c .before .before .before .before .loop2 in
+    let number = c .before .before .read in
+    let line = c .before .line-of in
+    let reads-are = accepted-file.reads-at file (outer .i) (omega (arith, start .pre .1, accepted-file.block-count file)) in
+    let inside : outer .i < blockCount t = omega (arith, start .pre .1) in
+    let counted : inner .j < length (blockAt t (outer .i) .reads) = rw reads-are (omega arith) in
+    let number-is : getD (blockAt t (outer .i) .reads) (inner .j) 0 ≡ number .result = rw reads-are (sym (number .ensures)) in
+    let is = line .ensures .0 t (start .pre .2) in (
       omega arith,
       rw (← add-assoc, add-one)
-          (holds-more (taskOf file) (outer .i) (inner .j) (number .result) (c .line-of .result) (inner .held) inside (rw reads-are (omega arith)) (rw reads-are (sym (number .ensures)))
-          (c .line-of .ensures .0 (taskOf file) (start .pre .2)) (c .line-of .ensures .1) (inner .inv .1)),
+          (⊎-elim
+          (λ w.
+          rw (w .2) (holds-skip t (outer .i) (inner .j) (number .result) (inner .held) inside counted number-is (inner .inv .1) (lies-nowhere t (number .result) (sym is ∙ w .1 .given .1))))
+          (λ w.
+          rw (w .3)
+          (holds-more t (outer .i) (inner .j) (number .result) (inner .held) inside counted number-is (inner .inv .1) (w .1 .given .0 .0)
+          (lies-on t (number .result) (w .1 .given .0 .0) (sym is ∙ w .1 .given .1)) (line-below (line .result) (w .1 .given .0 .0) (w .1 .given .1) (line .ensures .1))))
+          (c .match .came)),
     )
 
 add-i : tie.Need-add-i Inv-loop2 μ-loop2 Inv-loop μ-loop
@@ -120,6 +144,8 @@ held-after-spec =
     loop2-holds
     read-requires
     line-of-requires
+    enum-told
+    enum-known-c
     mul-held
     array-set-from-held
     add-j

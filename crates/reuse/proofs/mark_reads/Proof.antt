@@ -2,16 +2,14 @@
 -- Assumes nothing.
 use Prim.Native.Nat.{ℕ, _+_, _-_, _≤_, _<_}
 use mathlib.Core.Path.{_≡_, refl, sym, ap, _∙_}
-use mathlib.Core.Bool.{Bool, true, false, _||_, or-true, or-false, or-assoc}
+use mathlib.Core.Bool.{Bool, false, _||_, or-false, or-assoc}
 use mathlib.Core.List.{List}
-use mathlib.Core.Logic.{by-cases}
-use native.Mathlib.Decide.{ℕ-discrete}
 use native.Mathlib.Omega.{arith}
-use lib.ListN.{length, getD, set, take, length-set}
-use lib.Seq.{getD-set-same, getD-set-other, take-all}
-use borrow.Author.Tests.{eq-eqb, ne-eqb}
+use lib.ListN.{length, getD, take}
+use lib.Seq.{take-all}
 use Rattle.model.specs.Task.{Task}
-use Rattle.model.specs.Lines.{lineOf, onLine, anyRead}
+use Rattle.model.specs.Lines.{lineOf, isLine, onLine, anyRead}
+use Rattle.model.specs.declared.Mapping.{Mapping}
 use Rattle.model.proofs.LineStates.{any-take}
 use Rattle.taskfile.specs.File.{taskOf, entryReads}
 use borrow.Author.Needs.{needs}
@@ -22,24 +20,17 @@ use Rattle.reuse.proofs.mark_reads.Tie as tie
 abbrev Marked : Task → List ℕ → List Bool → ℕ → List Bool → Type 0
 Marked t xs marks₀ j marks = (length marks ≡ 512) × ((d : ℕ) → d < 512 → getD marks d false ≡ (getD marks₀ d false || anyRead (onLine t d) (take j xs)))
 
-marked-more : (t : Task) (xs : List ℕ) (marks₀ marks : List Bool) (j m line : ℕ) → j < length xs → m ≡ getD xs j 0 → line ≡ lineOf t m → line < 512
-    → Marked t xs marks₀ j marks → Marked t xs marks₀ (j + 1) (set marks line true)
+marked-more : (t : Task) (xs : List ℕ) (marks₀ marks marks′ : List Bool) (j m : ℕ) (mapping : Mapping) → j < length xs → m ≡ getD xs j 0 → mapping ≡ lineOf t m
+    → length marks′ ≡ 512 → ((d : ℕ) → d < 512 → getD marks′ d false ≡ (getD marks d false || isLine d mapping))
+    → Marked t xs marks₀ j marks → Marked t xs marks₀ (j + 1) marks′
 unfolding onLine
-marked-more t xs marks₀ marks j m line hj em el hl k = (
-  length-set marks line true ∙ k .0,
+marked-more t xs marks₀ marks marks′ j m mapping hj em el long marks-are k = (
+  long,
   λ d h.
-      by-cases (ℕ-discrete d line)
-      (λ e. rw e (getD-set-same marks line true false (omega (arith, k .0)) ∙ sym (grown line ∙ rw (eq-eqb line (lineOf t (getD xs j 0)) (el ∙ ap (lineOf t) em), or-true) refl)))
-      (λ n.
-      getD-set-other marks line d true false n ∙ k .1 d h ∙
-      sym (grown d ∙ rw (ne-eqb d (lineOf t (getD xs j 0)) (λ e. n (e ∙ sym (el ∙ ap (lineOf t) em)))) (or-false _))),
+      marks-are d h ∙ ap (λ (x : Bool). x || isLine d mapping) (k .1 d h) ∙
+      or-assoc (getD marks₀ d false) (anyRead (onLine t d) (take j xs)) (isLine d mapping) ∙
+      ap (λ (x : Bool). getD marks₀ d false || x) (rw (el, em) (sym (any-take (onLine t d) xs j hj))),
 )
-  where
-    grown : (d : ℕ) → (getD marks₀ d false || anyRead (onLine t d) (take (j + 1) xs))
-        ≡ ((getD marks₀ d false || anyRead (onLine t d) (take j xs)) || onLine t d (getD xs j 0))
-    grown d =
-        ap (λ (x : Bool). getD marks₀ d false || x) (any-take (onLine t d) xs j hj) ∙
-        sym (or-assoc (getD marks₀ d false) (anyRead (onLine t d) (take j xs)) (onLine t d (getD xs j 0)))
 
 abbrev Inv-loop : tie.InvT-loop
 Inv-loop marks₀ file cache k reads j₀ marks j = (j ≤ reads) × Marked (taskOf file) (entryReads file k) marks₀ j marks
@@ -60,8 +51,8 @@ read-requires c κs = search needs
 line-of-requires : tie.Need-line-of-requires Inv-loop μ-loop
 line-of-requires c κs = search needs
 
-element-write-marks : tie.Need-element-write-marks Inv-loop μ-loop
-element-write-marks c = omega arith
+mark-requires : tie.Need-mark-requires Inv-loop μ-loop
+mark-requires c κs = search needs
 
 add-j : tie.Need-add-j Inv-loop μ-loop
 add-j c = omega arith
@@ -71,11 +62,13 @@ loop-less c = omega arith
 
 loop-again : tie.Need-loop-again Inv-loop μ-loop
 loop-again c =
-    let l = c .before .before .before .loop in
-    let start = c .before .before .before .before .before .before in (
+    let l = c .before .before .before .before .before .loop in
+    let start = c .before .before .before .before .before .before .before .before in
+    let line = c .before .before .line-of in
+    let number = c .before .before .before .read in (
       omega arith,
-      marked-more (taskOf (start .args .file .now)) (entryReads (start .args .file .now) (start .args .k)) (start .args .marks .now) (l .marks) (l .j) (c .before .read .result) (c .line-of .result)
-          (omega arith) (c .before .read .ensures) (c .line-of .ensures .0 (taskOf (start .args .file .now)) (start .pre .1 .1)) (c .line-of .ensures .1) (l .inv .1),
+      marked-more (taskOf (start .args .file .now)) (entryReads (start .args .file .now) (start .args .k)) (start .args .marks .now) (l .marks) (c .mark .last .0) (l .j) (number .result)
+          (line .result) (omega arith) (number .ensures) (line .ensures .0 (taskOf (start .args .file .now)) (start .pre .1 .1)) (c .mark .ensures .0) (c .mark .ensures .1) (l .inv .1),
     )
 
 returns : tie.Need-returns Inv-loop μ-loop
@@ -99,7 +92,7 @@ mark-reads-spec =
     loop-holds
     read-requires
     line-of-requires
-    element-write-marks
+    mark-requires
     add-j
     loop-less
     loop-again

@@ -1,8 +1,9 @@
 -- `reuse::walk_reads` meets its contract. Both loops keep the state of the walk after the reads passed.
 -- Assumes nothing.
-use Prim.Native.Nat.{ℕ, _+_, _-_, _≤_, _<_}
+use Prim.Native.Nat.{ℕ, suc, _+_, _-_, _≤_, _<_}
 use mathlib.Core.Path.{_≡_, refl, sym, ap, _∙_}
 use mathlib.Core.Bool.{_||_, or-false}
+use mathlib.Core.Logic.{⊎-elim}
 use native.Mathlib.Nat.{add-zero}
 use native.Mathlib.Omega.{arith}
 use native.Mathlib.Numerals.{add-one}
@@ -12,13 +13,15 @@ use borrow.Author.Needs.{needs}
 use Rattle.model.specs.Task.{blockCount}
 use Rattle.model.specs.Lines.{lineOf, blockAt, readsOf}
 use Rattle.model.specs.declared.Line.the-variants.{Empty}
+use Rattle.model.proofs.LineStates.{lies-on, lies-nowhere}
 use Rattle.model.proofs.ReadOrder.{edge, edge-suc, edge-end}
 use Rattle.taskfile.specs.File.{taskOf}
 use Rattle.taskfile.proofs.Accepted as accepted-file
+use Rattle.cacheline.proofs.Below.{line-below}
 use Rattle.edgesets.specs.Edges.{linesAt}
 use Rattle.edgesets.proofs.Edges.{elsewhere}
 use Rattle.edgesets.proofs.Toggles.{toggled-agree}
-use Rattle.reuse.proofs.Steps.{Walked, walked-none, walked-more, walked-same, walked-all, walked-since, Gathered, gathered-none, gathered-same, gathered-more, gathered-block}
+use Rattle.reuse.proofs.Steps.{Walked, walked-none, walked-skip, walked-more, walked-same, walked-all, walked-since, Gathered, gathered-none, gathered-skip, gathered-same, gathered-more, gathered-block}
 use Rattle.reuse.proofs.walk_reads.Statement.{statement}
 use Rattle.reuse.proofs.walk_reads.Tie as tie
 
@@ -71,29 +74,41 @@ read-requires c κs =
 line-of-requires : tie.Need-line-of-requires Inv-loop2 μ-loop2 Inv-loop μ-loop
 line-of-requires c κs = search needs
 
+enum-told : tie.Need-enum-told Inv-loop2 μ-loop2 Inv-loop μ-loop
+enum-told c = search needs
+
+enum-known-c : tie.Need-enum-known-c Inv-loop2 μ-loop2 Inv-loop μ-loop
+enum-known-c c = search needs
+
+-- the line is one of the arrays
+below : (c : tie.After-known-told Inv-loop2 μ-loop2 Inv-loop μ-loop) → c .before .c .given .0 .0 < 512
+below c = let line = c .before .before .before .line-of in line-below (line .result) (c .before .c .given .0 .0) (c .before .c .given .1) (line .ensures .1)
+
 mul-line : tie.Need-mul-line Inv-loop2 μ-loop2 Inv-loop μ-loop
-mul-line c = omega arith
+mul-line c = omega (arith, below c)
 
 array-copy-out-line : tie.Need-array-copy-out-line Inv-loop2 μ-loop2 Inv-loop μ-loop
-array-copy-out-line c = omega arith
+array-copy-out-line c = omega (arith, below c)
 
 mul-add-reread : tie.Need-mul-add-reread Inv-loop2 μ-loop2 Inv-loop μ-loop
-mul-add-reread c = omega arith
+mul-add-reread c = omega (arith, below (c .before .before))
 
 array-read-add-reread : tie.Need-array-read-add-reread Inv-loop2 μ-loop2 Inv-loop μ-loop
-array-read-add-reread c = omega arith
+array-read-add-reread c = omega (arith, below (c .before .before))
 
 add-reread-requires : tie.Need-add-reread-requires Inv-loop2 μ-loop2 Inv-loop μ-loop
 add-reread-requires c κs =
-    let file = c .before .before .before .before .before .before .before .before .before .before .before .before .args .file .now in
-    let outer = c .before .before .before .before .before .before .before .before .loop in
-    let inner = c .before .before .before .before .before .loop2 in
+    let turn = c .before .before .before .before .before .before .before in
+    let outer = turn .before .before .before .before .loop in
+    let inner = turn .before .loop2 in
+    let file = turn .before .before .before .before .before .before .before .before .args .file .now in
+    let line = c .before .before .before .c .given .0 .0 in
     let inside : outer .i < blockCount (taskOf file) = omega arith in
     let reads-are = accepted-file.reads-at file (outer .i) (omega (arith, accepted-file.block-count file)) in
     let counted : inner .j ≤ length (blockAt (taskOf file) (outer .i) .reads) = rw reads-are (omega arith) in (
       search needs,
-      search needs,
-      omega (arith, walked-since (taskOf file) (outer .i) (inner .j) (c .before .before .line-of .result) (inner .held) (inner .since) (inner .sets) inside counted (c .before .before .line-of .ensures .1) (inner .inv .1)),
+      below (c .before .before),
+      omega (arith, walked-since (taskOf file) (outer .i) (inner .j) line (inner .held) (inner .since) (inner .sets) inside counted (below (c .before .before)) (inner .inv .1)),
       omega arith,
     )
 
@@ -101,19 +116,19 @@ add-add-line : tie.Need-add-add-line Inv-loop2 μ-loop2 Inv-loop μ-loop
 add-add-line c = omega arith
 
 add-line-requires : tie.Need-add-line-requires Inv-loop2 μ-loop2 Inv-loop μ-loop
-add-line-requires c κs = (search needs, search needs, omega arith)
+add-line-requires c κs = (search needs, below (c .before .before .before .before), omega arith)
 
 mul-held : tie.Need-mul-held Inv-loop2 μ-loop2 Inv-loop μ-loop
-mul-held c = omega arith
+mul-held c = omega (arith, below (c .before .before .before .before .before))
 
 array-set-from-held : tie.Need-array-set-from-held Inv-loop2 μ-loop2 Inv-loop μ-loop
-array-set-from-held c = omega arith
+array-set-from-held c = omega (arith, below (c .before .before .before .before .before))
 
 mul-since : tie.Need-mul-since Inv-loop2 μ-loop2 Inv-loop μ-loop
-mul-since c = omega arith
+mul-since c = omega (arith, below (c .before .before .before .before .before))
 
 array-write-since : tie.Need-array-write-since Inv-loop2 μ-loop2 Inv-loop μ-loop
-array-write-since c = omega arith
+array-write-since c = omega (arith, below (c .before .before .before .before .before))
 
 add-j : tie.Need-add-j Inv-loop2 μ-loop2 Inv-loop μ-loop
 add-j c = omega arith
@@ -123,29 +138,46 @@ loop2-less c = omega arith
 
 loop2-again : tie.Need-loop2-again Inv-loop2 μ-loop2 Inv-loop μ-loop
 loop2-again c =
-    let start = c .before .before .before .before .before .before .before .before .before .before .before .before .before .before .before in
+    let turn = c .before .before .before in
+    let outer = turn .before .before .before .before .loop in
+    let inner = turn .before .loop2 in
+    let start = turn .before .before .before .before .before .before .before .before in
     let file = start .args .file .now in
-    let cache = c .before .before .before .before .before .before .before .before .before .before .before .before .before .cache-of in
-    let outer = c .before .before .before .before .before .before .before .before .before .before .before .loop in
-    let inner = c .before .before .before .before .before .before .before .before .loop2 in
-    let number = c .before .before .before .before .before .before .read in
-    let line = c .before .before .before .before .before .line-of in
-    let reread = c .before .before .add-reread in
-    let inside : outer .i < blockCount (taskOf file) = omega (arith, c .before .before .before .before .before .before .before .before .before .before .loop-test .taken, c .before .before .before .before .before .before .before .before .before .before .before .before .block-count .ensures .0) in
+    let t = taskOf file in
+    let cache = turn .before .before .before .before .before .before .cache-of in
+    let number = c .before .before .read in
+    let line = c .before .line-of in
+    let inside : outer .i < blockCount t =
+    omega (arith, turn .before .before .before .loop-test .taken, turn .before .before .before .before .before .block-count .ensures .0) in
     let reads-are = accepted-file.reads-at file (outer .i) (omega (arith, accepted-file.block-count file)) in
-    let counted : inner .j < length (blockAt (taskOf file) (outer .i) .reads) = rw reads-are (omega (arith, c .before .before .before .before .before .before .before .loop2-test .taken, c .before .before .before .before .before .before .before .before .before .read-count .ensures .0)) in
-    let number-is : getD (blockAt (taskOf file) (outer .i) .reads) (inner .j) 0 ≡ number .result = rw reads-are (sym (number .ensures)) in
-    let line-is : line .result ≡ lineOf (taskOf file) (number .result) = line .ensures .0 (taskOf file) (cache .ensures) in (
-      omega arith,
-      walked-same (taskOf file) _ _ _ (reread .last .0) (c .add-line .last .0) (c .add-line .ensures .0)
-          (λ k d h. toggled-agree _ (reread .last .0) k d (λ e l. c .add-line .ensures .1 e d ∙ elsewhere _||_ or-false (linesAt (reread .last .0) e d) (eqb d (line .result)) e (65 + (outer .i + 1)) (λ s. omega arith)))
-          (walked-more (taskOf file) (outer .i) (inner .j) (outer .i + 1) (number .result) (line .result) _ (inner .held) (inner .since) (inner .sets)
-          (reread .last .0) inside counted (add-one (outer .i)) number-is (line .ensures .1) line-is (omega arith)
-          (reread .ensures .0) (reread .ensures .1 .0) (inner .inv .1)),
-      gathered-more (taskOf file) (outer .i) (inner .j) (65 + (outer .i + 1)) (number .result) (line .result) (reread .last .0) (c .add-line .last .0) counted
-          (ap (λ (n : ℕ). 65 + n) (add-one (outer .i))) number-is line-is (c .add-line .ensures .1)
-          (gathered-same (taskOf file) (outer .i) (inner .j) (inner .sets) (reread .last .0) (reread .ensures .1 .1) (inner .inv .2)),
-    )
+    let counted : inner .j < length (blockAt t (outer .i) .reads) = rw reads-are (omega (arith, turn .loop2-test .taken, turn .before .before .read-count .ensures .0)) in
+    let number-is : getD (blockAt t (outer .i) .reads) (inner .j) 0 ≡ number .result = rw reads-are (sym (number .ensures)) in
+    let next : edge t (outer .i) + (inner .j + 1) ≡ suc (edge t (outer .i) + inner .j) = omega arith in
+    let is = line .ensures .0 t (cache .ensures) in
+    ⊎-elim
+    (λ w.
+    let nowhere = lies-nowhere t (number .result) (sym is ∙ w .1 .given .1) in
+    rw (w .2, w .3, w .4) (
+      omega (arith, turn .loop2-test .taken),
+      walked-skip t (outer .i) (inner .j) (outer .i + 1) (number .result) _ inside counted (add-one (outer .i)) number-is next (inner .held) (inner .since) (inner .sets) nowhere (inner .inv .1),
+      gathered-skip t (outer .i) (inner .j) (number .result) (inner .sets) counted number-is nowhere (inner .inv .2),
+    ))
+    (λ w.
+    let on = w .1 .given .0 .0 in
+    let lies = lies-on t (number .result) on (sym is ∙ w .1 .given .1) in
+    let reread = w .5 in
+    let added = w .7 in
+    rw (w .8, w .9, w .10) (
+      omega (arith, turn .loop2-test .taken),
+      walked-same t _ _ _ (reread .last .0) (added .last .0) (added .ensures .0)
+          (λ k d h. toggled-agree _ (reread .last .0) k d (λ e l. added .ensures .1 e d ∙ elsewhere _||_ or-false (linesAt (reread .last .0) e d) (eqb d on) e (65 + (outer .i + 1)) (λ s. omega arith)))
+          (walked-more t (outer .i) (inner .j) (outer .i + 1) (number .result) _ inside counted (add-one (outer .i)) number-is next (inner .held) (inner .since) (inner .sets) on
+          (reread .last .0) (line-below (line .result) on (w .1 .given .1) (line .ensures .1)) lies (reread .ensures .0) (reread .ensures .1 .0) (inner .inv .1)),
+      gathered-more t (outer .i) (inner .j) (65 + (outer .i + 1)) (number .result) on (reread .last .0) (added .last .0) counted
+          (ap (λ (n : ℕ). 65 + n) (add-one (outer .i))) number-is lies (added .ensures .1)
+          (gathered-same t (outer .i) (inner .j) (inner .sets) (reread .last .0) (reread .ensures .1 .1) (inner .inv .2)),
+    ))
+    (c .match .came)
 
 add-i : tie.Need-add-i Inv-loop2 μ-loop2 Inv-loop μ-loop
 add-i c = omega arith
@@ -197,6 +229,8 @@ walk-reads-spec =
     loop2-holds
     read-requires
     line-of-requires
+    enum-told
+    enum-known-c
     mul-line
     array-copy-out-line
     mul-add-reread

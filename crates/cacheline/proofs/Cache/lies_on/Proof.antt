@@ -1,18 +1,45 @@
--- `cacheline::Cache::lies_on` meets its contract: a memory block lies on its own line and no other.
+-- `cacheline::Cache::lies_on` meets its contract: a memory block lies on the line of its remainder, unless it bypasses the cache.
 -- Assumes nothing.
-use mathlib.Core.Path.{ap}
+use Prim.Native.Nat.{ℕ, _%_}
+use mathlib.Core.Path.{_≡_, refl, sym, ap, _∙_}
+use mathlib.Core.Bool.{Bool, true, false, not, cond, _&&_, and-true, and-false}
 use lib.Dec.{eqb}
 use borrow.Author.Needs.{needs}
-use Rattle.model.specs.Lines.{onLine}
+use borrow.Author.Tests.{eq-eqb, ne-eqb}
+use Rattle.model.specs.Task.{Task}
+use Rattle.model.specs.Lines.{bypasses, lineOf, isLine, onLine}
+use Rattle.model.specs.declared.Mapping.the-variants.{Uncached, Cached}
 use Rattle.cacheline.proofs.Cache.lies_on.Statement.{statement}
 use Rattle.cacheline.proofs.Cache.lies_on.Tie as tie
 
-line-of-requires : tie.Need-line-of-requires
-line-of-requires c κs = search needs
+both-tests : (t : Task) (c m : ℕ) → onLine t c m ≡ (eqb c (m % t .lineCount) && not (bypasses t m))
+unfolding onLine lineOf
+both-tests t c m = go (bypasses t m)
+  where
+    go : (b : Bool) → isLine c (cond b Uncached (Cached (m % t .lineCount))) ≡ (eqb c (m % t .lineCount) && not b)
+    go true = sym (and-false (eqb c (m % t .lineCount)))
+    go false = sym (and-true (eqb c (m % t .lineCount)))
+
+remainder-requires : tie.Need-remainder-requires
+remainder-requires c κs = search needs
+
+bypasses-requires : tie.Need-bypasses-requires
+bypasses-requires c κs = search needs
 
 returns : tie.Need-returns
-unfolding onLine
-returns c = λ t of. ap (eqb (c .before .args .c)) (c .line-of .ensures .0 t of)
+returns c =
+    let asked = c .before .before in
+    let start = asked .before in
+    λ t of.
+    let there = asked .remainder .ensures .0 ∙ ap (λ (s : ℕ). start .args .number % s) (of .count) in
+    rw (both-tests t (start .args .c) (start .args .number), eq-eqb _ _ (c .before .if1 .taken ∙ there), c .bypasses .ensures t of) refl
+
+returns-2 : tie.Need-returns-2
+returns-2 c =
+    let start = c .before .before in
+    λ t of.
+    let there = c .before .remainder .ensures .0 ∙ ap (λ (s : ℕ). start .args .number % s) (of .count) in
+    rw (both-tests t (start .args .c) (start .args .number), ne-eqb _ _ (λ e. c .if1 .left (e ∙ sym there))) refl
 
 pub lies-on-spec : {M : Type 1} → statement M
-lies-on-spec = tie.close (tie.spec line-of-requires returns)
+lies-on-spec = tie.close (tie.spec remainder-requires bypasses-requires returns returns-2)

@@ -1,42 +1,32 @@
--- `cacheline::Cache::line_of` meets its contract: the remainder is what the quotient leaves, or that less the count.
+-- `cacheline::Cache::line_of` meets its contract: no line in the scratch range, and else the remainder.
 -- Assumes nothing.
 use Prim.Native.Nat.{ℕ, _%_}
-use mathlib.Core.Path.{ap, _∙_}
-use native.Mathlib.Omega.{arith}
+use mathlib.Core.Path.{refl, sym, ap, _∙_}
 use borrow.Author.Needs.{needs}
 use Rattle.model.specs.Lines.{lineOf}
-use Rattle.cacheline.proofs.Remainders.{product-fits, quotient-le, rest-lt, rest-below, rest-above}
+use Rattle.model.specs.declared.Mapping.the-variants.{Cached}
 use Rattle.cacheline.proofs.Cache.line_of.Statement.{statement}
 use Rattle.cacheline.proofs.Cache.line_of.Tie as tie
 
-cast-lines : tie.Need-cast-lines
-cast-lines c = search needs
+bypasses-requires : tie.Need-bypasses-requires
+bypasses-requires c κs = search needs
 
-mul-quotient : tie.Need-mul-quotient
-mul-quotient c = omega (arith, product-fits (c .before .before .pre .some) (c .before .before .fits .number .fits) (c .before .before .pre .inverse))
-
-mul-rest : tie.Need-mul-rest
-mul-rest c = omega (arith, quotient-le (c .before .before .pre .some) (c .before .before .fits .number .fits) (c .before .before .pre .inverse))
-
-sub-rest : tie.Need-sub-rest
-sub-rest c = quotient-le (c .before .before .pre .some) (c .before .before .fits .number .fits) (c .before .before .pre .inverse)
+remainder-requires : tie.Need-remainder-requires
+remainder-requires c κs = search needs
 
 returns : tie.Need-returns
 unfolding lineOf
-returns c =
-    let start = c .before .before .before in (
-      λ t of. rest-below (start .pre .some) (start .fits .number .fits) (start .pre .inverse) (omega arith) ∙ ap (λ (s : ℕ). start .args .number % s) (of .count),
-      omega arith,
-    )
+returns c = (λ t of. rw (sym (c .before .bypasses .ensures t of) ∙ c .if1 .taken) refl, tt)
 
 returns-2 : tie.Need-returns-2
 unfolding lineOf
 returns-2 c =
-    let start = c .before .before .before in
-    let high = rest-lt (start .pre .some) (start .fits .number .fits) (start .pre .inverse) in (
-      λ t of. rest-above (start .pre .some) (start .fits .number .fits) (start .pre .inverse) (omega arith) ∙ ap (λ (s : ℕ). start .args .number % s) (of .count),
-      omega arith,
+    let start = c .before .before .before in (
+      λ t of.
+          rw (sym (c .before .before .bypasses .ensures t of) ∙ c .before .if1 .left)
+          (ap Cached (c .remainder .ensures .0 ∙ ap (λ (s : ℕ). start .args .number % s) (of .count))),
+      c .remainder .ensures .1,
     )
 
 pub line-of-spec : {M : Type 1} → statement M
-line-of-spec = tie.close (tie.spec cast-lines mul-quotient mul-rest sub-rest returns returns-2)
+line-of-spec = tie.close (tie.spec bypasses-requires remainder-requires returns returns-2)

@@ -1,0 +1,51 @@
+-- `reuse::mark` meets its contract, by the mapping's two cases.
+-- Assumes nothing.
+use Prim.Native.Nat.{ℕ, _<_}
+use mathlib.Core.Path.{_≡_, refl, sym, _∙_}
+use mathlib.Core.Bool.{Bool, true, false, _||_, or-true, or-false}
+use mathlib.Core.List.{List}
+use mathlib.Core.Logic.{by-cases}
+use native.Mathlib.Decide.{ℕ-discrete}
+use native.Mathlib.Omega.{arith}
+use lib.Dec.{eqb}
+use lib.ListN.{length, getD, set, length-set}
+use lib.Seq.{getD-set-same, getD-set-other}
+use borrow.Author.Needs.{needs}
+use borrow.Author.Tests.{eq-eqb, ne-eqb}
+use Rattle.cacheline.proofs.Below.{line-below}
+use Rattle.reuse.proofs.mark.Statement.{statement}
+use Rattle.reuse.proofs.mark.Tie as tie
+
+one-marked : (marks : List Bool) (line d : ℕ) → line < length marks → getD (set marks line true) d false ≡ (getD marks d false || eqb d line)
+one-marked marks line d h =
+    by-cases (ℕ-discrete d line) (λ e. rw (e, eq-eqb line line refl, or-true) (getD-set-same marks line true false h))
+    (λ n. rw (ne-eqb d line n, or-false) (getD-set-other marks line d true false n))
+
+enum-told : tie.Need-enum-told
+enum-told c = search needs
+
+enum-known-mapping : tie.Need-enum-known-mapping
+enum-known-mapping c = search needs
+
+element-write-marks : tie.Need-element-write-marks
+element-write-marks c =
+    let start = c .before .before .before in
+    let told = c .before .mapping .given in
+    omega (arith, start .pre .0, line-below (start .args .mapping) (told .0 .0) (told .1) (start .pre .1))
+
+returns : tie.Need-returns
+returns c =
+    let start = c .before .before in
+    (start .pre .0, λ d h. rw (c .enum-told .given .1) (sym (or-false _)))
+
+returns-2 : tie.Need-returns-2
+returns-2 c =
+    let start = c .before .before .before in
+    let told = c .before .mapping .given in
+    let below = line-below (start .args .mapping) (told .0 .0) (told .1) (start .pre .1) in (
+      length-set (start .args .marks .now) (told .0 .0) true ∙ start .pre .0,
+      λ d h. rw (told .1) (one-marked (start .args .marks .now) (told .0 .0) d (omega (arith, start .pre .0, below))),
+    )
+
+pub mark-spec : {M : Type 1} → statement M
+mark-spec = tie.close (tie.spec enum-told enum-known-mapping element-write-marks returns returns-2)

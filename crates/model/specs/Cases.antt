@@ -67,7 +67,7 @@ block time reads = record { time = time; reads = reads }
 abbrev pub preempter : List ℕ → Preempter
 preempter reads = record { id = 0; reads = reads }
 
--- File Seven, with S lines, the limit Q and a scratch range of its first numbers, none where there are 0
+-- File Seven, with S lines, the limit Q, and the numbers below count in its scratch range
 abbrev pub scratchSeven : ℕ → ℕ → ℕ → Task
 scratchSeven s q count =
     record {
@@ -81,6 +81,7 @@ scratchSeven s q count =
       preempters = preempter (4 ∷ 1 ∷ []) ∷ [];
     }
 
+-- File Seven as document 01 has it
 abbrev pub fileSeven : ℕ → ℕ → Task
 fileSeven s q = scratchSeven s q 0
 

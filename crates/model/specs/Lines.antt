@@ -84,7 +84,7 @@ nextRead t k c = firstRead (onLine t c) (readsOf (drop k (t .blocks)))
 unfoldable pub readsLookedAt : Task → ℕ → ℕ → ℕ
 readsLookedAt t k c = lookedAt (onLine t c) (readsOf (drop k (t .blocks)))
 
--- what the search answers: the number that the line holds at its next read, or none
+-- what the search answers of a next read: its number, or none
 abbrev pub asNext : Line → Next
 asNext Empty = Never
 asNext (Held m) = Read m

@@ -11,7 +11,7 @@ use lib.Dec.{eqb}
 use lib.ListN.{length, getD, replicate, getD-replicate}
 use borrow.Author.Needs.{needs}
 use Rattle.model.specs.Task.{blockCount}
-use Rattle.model.specs.Lines.{lineOf, blockAt, readsOf}
+use Rattle.model.specs.Lines.{blockAt, readsOf}
 use Rattle.model.specs.declared.Line.the-variants.{Empty}
 use Rattle.model.proofs.LineStates.{lies-on, lies-nowhere}
 use Rattle.model.proofs.ReadOrder.{edge, edge-suc, edge-end}

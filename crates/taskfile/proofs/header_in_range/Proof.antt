@@ -1,6 +1,6 @@
 -- `taskfile::header_in_range` meets its contract: the counts are tested, and then the scratch range.
 -- Assumes nothing.
-use mathlib.Core.Path.{_≡_, _∙_}
+use mathlib.Core.Path.{_≡_}
 use lib.ListN.{length}
 use borrow.Author.Needs.{needs}
 use borrow.Author.Tests.{not-true, not-false}

@@ -2,7 +2,7 @@
 -- Assumes nothing.
 use Prim.Native.Nat.{ℕ, zero, suc, _-_}
 use mathlib.Core.Bool.{Bool, cond}
-use mathlib.Core.List.{List, _++_}
+use mathlib.Core.List.{List, [], _++_}
 use lib.ListN.{length, take, drop, replicate}
 use Rattle.model.specs.Lists.{sameList}
 use Rattle.model.specs.declared.Place.{Place}
@@ -17,6 +17,11 @@ numbered k named = named ++ replicate (504 - length named) 0 ++ le 4 k
 -- 508 bytes and their checksum (the document's check)
 unfoldable pub sealed : List ℕ → List ℕ
 sealed bs = bs ++ le 4 (fnv1a bs)
+
+-- the first n blocks of some bytes, each with its checksum
+unfoldable pub sealedBlocks : ℕ → List ℕ → List ℕ
+sealedBlocks zero bs = []
+sealedBlocks (suc n) bs = sealed (take 508 bs) ++ sealedBlocks n (drop 512 bs)
 
 -- a block's checksum is right
 unfoldable pub checksumRight : List ℕ → Bool

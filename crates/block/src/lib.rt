@@ -2,11 +2,13 @@
 ghost use mathlib.Core.Path.{_≡_};
 ghost use mathlib.Core.Bool.{_&&_};
 ghost use mathlib.Core.List.{_++_};
-ghost use Prim.Native.Nat.{_+_, _-_, _≤_};
+ghost use Prim.Native.Nat.{_+_, _-_, _*_, _≤_};
 ghost use lib.ListN.{length, take, drop, replicate};
 ghost use Rattle.fnv.specs.Fnv.{fnv1a};
 ghost use Rattle.block.specs.Bytes.{le, field, zerosBetween};
-ghost use Rattle.block.specs.Blocks.{sealed, checksumRight, bodyRight, framed};
+ghost use Rattle.block.specs.Blocks.{numbered, sealed, sealedBlocks, checksumRight, bodyRight, framed};
+ghost use Rattle.block.specs.Steps.{HashesOf, SealedSoFar};
+use fnv::FourHashes;
 
 // The number in two bytes.
 pub fn u16_at(bytes: &[u8], at: usize) -> u16
@@ -120,6 +122,14 @@ pub fn body_right(block: &[u8], number: u32, kind: u8, byte_1: u8, end: usize) -
     u32_at(block, 504) == number
 }
 
+// Stores a byte.
+pub fn put_u8(bytes: &mut [u8], at: usize, v: u8)
+    requires { ⌜ at + 1 ≤ length (now bytes) ⌝ }
+    ensures { λ _. ⌜ now (bytes .exit) ≡ take at (now (bytes .entry)) ++ le 1 v ++ drop (at + 1) (now (bytes .entry)) ⌝ }
+{
+    bytes[at] = v;
+}
+
 // Stores a number in two bytes.
 pub fn put_u16(bytes: &mut [u8], at: usize, v: u16)
     requires { ⌜ at + 2 ≤ length (now bytes) ⌝ }
@@ -148,7 +158,7 @@ pub fn put_u64(bytes: &mut [u8], at: usize, v: u64)
 }
 
 // Stores zeros from start up to end; the byte at end stays what it was.
-pub fn clear_between(bytes: &mut [u8], start: usize, end: usize)
+fn clear_between(bytes: &mut [u8], start: usize, end: usize)
     requires { ⌜ (start ≤ end) × (end ≤ length (now bytes)) ⌝ }
     ensures { λ _. ⌜ now (bytes .exit) ≡ take start (now (bytes .entry)) ++ replicate (end - start) 0 ++ drop end (now (bytes .entry)) ⌝ }
 {
@@ -159,6 +169,16 @@ pub fn clear_between(bytes: &mut [u8], start: usize, end: usize)
     }
 }
 
+// Stores what follows a block's named bytes, which end before end: zeros and its number.
+pub fn close_body(block: &mut [u8], end: usize, number: u32)
+    requires { ⌜ length (now block) ≡ 512 ⌝ }
+    requires { ⌜ end ≤ 504 ⌝ }
+    ensures { λ _. ⌜ take 508 (now (block .exit)) ≡ numbered number (take end (now (block .entry))) ⌝ }
+{
+    clear_between(block, end, 504);
+    put_u32(block, 504, number);
+}
+
 // Stores a block's checksum.
 pub fn seal(block: &mut [u8])
     requires { ⌜ length (now block) ≡ 512 ⌝ }
@@ -166,4 +186,58 @@ pub fn seal(block: &mut [u8])
 {
     let hash = fnv::hash(&block[..508]);
     put_u32(block, 508, hash);
+}
+
+// The hashes of four blocks, up to their checksums.
+fn hash_blocks(blocks: &[u8]) -> FourHashes
+    requires { ⌜ length (now blocks) ≡ 2048 ⌝ }
+    ensures { λ r. ⌜ HashesOf (now (blocks .entry)) r ⌝ }
+{
+    fnv::hash_four(
+        &blocks[..508],
+        &blocks[512..1020],
+        &blocks[1024..1532],
+        &blocks[1536..2044],
+    )
+}
+
+// Stores the checksums of four blocks.
+fn seal_four(blocks: &mut [u8])
+    requires { ⌜ length (now blocks) ≡ 2048 ⌝ }
+    ensures { λ _. ⌜ now (blocks .exit) ≡ sealedBlocks 4 (now (blocks .entry)) ⌝ }
+{
+    let hashes = hash_blocks(blocks);
+    put_u32(blocks, 508, hashes.a);
+    put_u32(blocks, 1020, hashes.b);
+    put_u32(blocks, 1532, hashes.c);
+    put_u32(blocks, 2044, hashes.d);
+}
+
+// Stores the checksums of the first blocks, four at a time, and answers how many have theirs.
+fn seal_fours(file: &mut [u8], count: usize) -> usize
+    requires { ⌜ 512 * count ≤ length (now file) ⌝ }
+    ensures { λ r. ⌜ SealedSoFar (now (file .entry)) count (now (file .exit)) r ⌝ }
+{
+    let mut k = 0;
+    while 4 <= count - k {
+        let start = k * 512;
+        let end = start + 2048;
+        seal_four(&mut file[start..end]);
+        k += 4;
+    }
+    k
+}
+
+// Stores the checksums of the first blocks.
+pub fn seal_blocks(file: &mut [u8], count: usize)
+    requires { ⌜ 512 * count ≤ length (now file) ⌝ }
+    ensures { λ _. ⌜ now (file .exit) ≡ sealedBlocks count (now (file .entry)) ++ drop (512 * count) (now (file .entry)) ⌝ }
+{
+    let mut k = seal_fours(file, count);
+    while k < count {
+        let start = k * 512;
+        let end = start + 512;
+        seal(&mut file[start..end]);
+        k += 1;
+    }
 }

@@ -55,8 +55,7 @@ fn put_body(plan: Plan, out: &mut [u8])
     let count = plan.count as usize;
     put_head(plan, out);
     put_points(points, count, out);
-    block::clear_between(out, 20 + 2 * count, 504);
-    block::put_u32(out, 504, 0);
+    block::close_body(out, 20 + 2 * count, 0);
 }
 
 // Stores a plan's checksum.

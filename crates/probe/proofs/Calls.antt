@@ -3,7 +3,7 @@
 use Prim.Native.Nat.{ℕ, suc, _+_, _≤_}
 use mathlib.Core.Path.{_≡_, refl, sym, _∙_}
 use mathlib.Core.Bool.{Bool, true, false, cond, _&&_}
-use mathlib.Core.List.{List, [], _∷_, _++_, append-nil}
+use mathlib.Core.List.{List, [], _∷_, _++_, append-nil, append-assoc}
 use native.Mathlib.Omega.{arith}
 use lib.Dec.{leb, ltb}
 use lib.ListN.{length, take, drop}
@@ -11,8 +11,9 @@ use lib.Seq.{drop-length, take-all}
 use borrow.Author.Tests.{ltb-true}
 use Rattle.model.specs.Task.{blockCount}
 use Rattle.model.specs.Lists.{steps, lowest, rightPoint}
-use Rattle.model.specs.Answers.{verdictPlace, andThen, mostBlocks}
+use Rattle.model.specs.Answers.{place, verdictPlace, andThen, mostBlocks}
 use Rattle.model.specs.declared.Place.the-variants.{At}
+use Rattle.model.specs.declared.Refusal.{Refusal}
 use Rattle.model.specs.declared.Refusal.the-variants.{Argument}
 use Rattle.model.specs.declared.Verdict.the-variants.{Accepted, Refused}
 use Rattle.model.proofs.Lists.{and-split}
@@ -21,17 +22,19 @@ use Rattle.taskfile.specs.File.{verdict, taskOf}
 use Rattle.taskfile.proofs.Accepted.{few-blocks}
 use Rattle.taskfile.proofs.Places.{verdict-most}
 use Rattle.block.specs.Bytes.{le, les}
-use Rattle.planblock.proofs.Storing.{les-snoc, numbers-more}
+use Rattle.block.proofs.Storing.{Stored, stored-none, stored-first, stored-number, les-snoc}
 use Rattle.planner.specs.Calls.{edgeVerdict, regionVerdict}
 use Rattle.replays.specs.Calls.{replayVerdict}
 
+-- one refusal, if a test fails
+test-most : (right : Bool) (x : Refusal) → place x ≤ mostBlocks → verdictPlace (cond right Accepted (Refused x)) ≤ mostBlocks
+test-most true x h = omega arith
+test-most false x h = h
+
 -- the file's refusal, or 7 at 0
 file-most : (file : List ℕ) (right : Bool) → verdictPlace (andThen (verdict file) (cond right Accepted (Refused (Argument 0)))) ≤ mostBlocks
-file-most file right = then-most (verdict file) (cond right Accepted (Refused (Argument 0))) mostBlocks (verdict-most file) (λ a. argument right)
-  where
-    argument : (r : Bool) → verdictPlace (cond r Accepted (Refused (Argument 0))) ≤ mostBlocks
-    argument true = omega arith
-    argument false = omega arith
+file-most file right =
+    then-most (verdict file) (cond right Accepted (Refused (Argument 0))) mostBlocks (verdict-most file) (λ a. test-most right (Argument 0) (omega arith))
 
 pub edge-most : (file : List ℕ) (k : ℕ) → verdictPlace (edgeVerdict file k) ≤ mostBlocks
 unfolding edgeVerdict
@@ -67,19 +70,19 @@ pub region-stored : (ws bs new : List ℕ) (v : ℕ) → length bs ≡ 72 → ta
     → new ≡ les 8 (ws ++ (v ∷ []))
 region-stored ws bs new v l p q = rw (q, p, ← l, drop-length, append-nil, les-snoc)
 
--- three numbers, each behind those before it
-pub numbers-stored : (a b c : ℕ) (bs one two three : List ℕ) → length bs ≡ 24 → one ≡ take 0 bs ++ le 8 a ++ drop 8 bs
-    → two ≡ take 8 one ++ le 8 b ++ drop 16 one → three ≡ take 16 two ++ le 8 c ++ drop 24 two → length three ≡ 24 → three ≡ les 8 (a ∷ b ∷ c ∷ [])
-unfolding les
-numbers-stored a b c bs one two three l p q r long =
-    sym (take-all 24 three (omega arith)) ∙
-    numbers-more 8 16 (a ∷ b ∷ c ∷ []) two three [] 2 (omega arith)
-    (numbers-more 8 8 (a ∷ b ∷ c ∷ []) one two [] 1 (omega arith) (numbers-more 8 0 (a ∷ b ∷ c ∷ []) bs one [] 0 (omega arith) (refl, refl) p) q) r .0
+-- two numbers, the second behind the first
+two-first : (a b : ℕ) (bs one two : List ℕ) → one ≡ take 0 bs ++ le 8 a ++ drop 8 bs → two ≡ take 8 one ++ le 8 b ++ drop 16 one
+    → Stored 16 bs two (le 8 a ++ le 8 b)
+two-first a b bs one two p q = stored-number 8 b (stored-number 8 a (stored-none 0 bs (omega arith)) p) q
 
--- and two
-pub two-stored : (a b : ℕ) (bs one two : List ℕ) → length bs ≡ 16 → one ≡ take 0 bs ++ le 8 a ++ drop 8 bs
+pub two-stored : (a b : ℕ) (bs one two : List ℕ) → one ≡ take 0 bs ++ le 8 a ++ drop 8 bs
     → two ≡ take 8 one ++ le 8 b ++ drop 16 one → length two ≡ 16 → two ≡ les 8 (a ∷ b ∷ [])
 unfolding les
-two-stored a b bs one two l p q long =
-    sym (take-all 16 two (omega arith)) ∙
-    numbers-more 8 8 (a ∷ b ∷ []) one two [] 1 (omega arith) (numbers-more 8 0 (a ∷ b ∷ []) bs one [] 0 (omega arith) (refl, refl) p) q .0
+two-stored a b bs one two p q long = sym (take-all 16 two (omega arith)) ∙ stored-first (two-first a b bs one two p q) ∙ rw append-nil
+
+-- and three
+pub numbers-stored : (a b c : ℕ) (bs one two three : List ℕ) → one ≡ take 0 bs ++ le 8 a ++ drop 8 bs
+    → two ≡ take 8 one ++ le 8 b ++ drop 16 one → three ≡ take 16 two ++ le 8 c ++ drop 24 two → length three ≡ 24 → three ≡ les 8 (a ∷ b ∷ c ∷ [])
+unfolding les
+numbers-stored a b c bs one two three p q r long =
+    sym (take-all 24 three (omega arith)) ∙ stored-first (stored-number 8 c (two-first a b bs one two p q) r) ∙ rw (append-nil, append-assoc)

@@ -48,19 +48,19 @@ pub record AcceptedFile (file : List ℕ) : Type 0 where
   pub blocks-right : (k : ℕ) → 1 ≤ k → k ≤ header file .blocks + header file .preempters → blockRight file k ≡ true
   pub count-most : (k : ℕ) → 1 ≤ k → k ≤ header file .blocks + header file .preempters → field (blockIn file k) 2 2 ≤ 124
 
-pub in-range : (t : Task) → headerInRange t ≡ true
-    → (1 ≤ blockCount t) × (blockCount t ≤ 64) × (length (t .preempters) ≤ 32) × (1 ≤ t .lineCount) × (t .lineCount ≤ 512)
-unfolding headerInRange countsInRange
-in-range t both =
-    let n : ℕ = blockCount t in
-    let m : ℕ = length (t .preempters) in
-    let s : ℕ = t .lineCount in
-    let e = and-split (countsInRange n m s) _ both .0 in
+pub counts-range : (n m s : ℕ) → countsInRange n m s ≡ true → (1 ≤ n) × (n ≤ 64) × (m ≤ 32) × (1 ≤ s) × (s ≤ 512)
+unfolding countsInRange
+counts-range n m s e =
     let a = and-split (leb 1 n && leb n 64 && leb m 32 && leb 1 s) (leb s 512) e in
     let b = and-split (leb 1 n && leb n 64 && leb m 32) (leb 1 s) (a .0) in
     let c = and-split (leb 1 n && leb n 64) (leb m 32) (b .0) in
     let d = and-split (leb 1 n) (leb n 64) (c .0) in
     (leb-true _ _ (d .0), leb-true _ _ (d .1), leb-true _ _ (c .1), leb-true _ _ (b .1), leb-true _ _ (a .1))
+
+pub in-range : (t : Task) → headerInRange t ≡ true
+    → (1 ≤ blockCount t) × (blockCount t ≤ 64) × (length (t .preempters) ≤ 32) × (1 ≤ t .lineCount) × (t .lineCount ≤ 512)
+unfolding headerInRange
+in-range t e = counts-range (blockCount t) (length (t .preempters)) (t .lineCount) (and-split (countsInRange (blockCount t) (length (t .preempters)) (t .lineCount)) _ e .0)
 
 pub whole-blocks : (n : ℕ) → lengthRight n ≡ true → (0 < n) × (n % 512 ≡ 0)
 unfolding lengthRight

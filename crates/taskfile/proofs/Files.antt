@@ -23,7 +23,7 @@ use Rattle.taskfile.proofs.Accepted.{AcceptedFile, accepted, length-col
 
 -- whole blocks
 
-whole-append : (k : ℕ) (xs ys : List (List ℕ)) → wholeBlocks k (xs ++ ys) ≡ wholeBlocks k xs ++ wholeBlocks (k + length xs) ys
+pub whole-append : (k : ℕ) (xs ys : List (List ℕ)) → wholeBlocks k (xs ++ ys) ≡ wholeBlocks k xs ++ wholeBlocks (k + length xs) ys
 unfolding wholeBlocks
 whole-append k [] ys = rw add-zero
 whole-append k (x ∷ xs) ys = rw (whole-append (suc k) xs ys, add-suc, ← suc-add, append-assoc)

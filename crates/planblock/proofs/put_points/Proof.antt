@@ -8,13 +8,14 @@ use native.Mathlib.Numerals.{add-one}
 use lib.ListN.{length, take}
 use borrow.Author.Needs.{needs}
 use Rattle.block.specs.Bytes.{les}
-use Rattle.planblock.proofs.Storing.{Begins, points-none, numbers-more}
+use Rattle.block.proofs.Storing.{Stored, stored-first, stored-next}
+use Rattle.planblock.proofs.Storing.{points-none}
 use Rattle.planblock.proofs.put_points.Statement.{statement}
 use Rattle.planblock.proofs.put_points.Tie as tie
 
 abbrev Inv-loop : tie.InvT-loop
 Inv-loop count out₀ points i₀ out i =
-    (i ≤ count) × (length out ≡ 512) × (length points ≡ 64) × Begins (20 + 2 * i) out (take 20 out₀ ++ les 2 (take i points))
+    (i ≤ count) × (length out ≡ 512) × (length points ≡ 64) × Stored (20 + 2 * i) out₀ out (take 20 out₀ ++ les 2 (take i points))
 
 abbrev μ-loop : tie.MeasureT-loop
 μ-loop count out₀ points i₀ out i = count - i
@@ -51,7 +52,8 @@ loop-again c =
       search needs,
       search needs,
       search needs,
-      rw (← next, add-one) (numbers-more 2 (20 + 2 * loop .i) (start .args .t1) (loop .out) (c .before .before .put-u16 .last .0) (take 20 (start .args .out .now)) (loop .i) (omega arith) (loop .inv .3) (c .before .before .put-u16 .ensures)),
+      rw (← next, add-one)
+          (stored-next 2 (start .args .t1) (take 20 (start .args .out .now)) (loop .i) (omega arith) (loop .inv .3) (c .before .before .put-u16 .ensures)),
     )
 
 same-length : tie.Need-same-length Inv-loop μ-loop
@@ -59,8 +61,9 @@ same-length c = search needs
 
 returns : tie.Need-returns Inv-loop μ-loop
 returns c =
-    let all : c .before .loop .i ≡ c .before .before .before .args .count = omega arith in
-    rw all at (c .before .loop .inv .3 .0)
+    let loop = c .before .loop in
+    let all : loop .i ≡ c .before .before .before .args .count = omega arith in
+    rw all at (stored-first (loop .inv .3))
 
 pub put-points-spec : {M : Type 1} → statement M
 put-points-spec =

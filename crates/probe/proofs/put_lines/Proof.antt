@@ -1,7 +1,7 @@
 -- `probe::put_lines` meets its contract. The loop's invariant: the buffer begins with the first `w` words.
 -- Assumes nothing.
 use Prim.Native.Nat.{_+_, _-_, _*_, _≤_}
-use mathlib.Core.Path.{_≡_, refl}
+use mathlib.Core.Path.{_≡_}
 use mathlib.Core.List.{[]}
 use native.Mathlib.Omega.{arith}
 use native.Mathlib.Numerals.{add-one}
@@ -9,20 +9,20 @@ use lib.ListN.{length, take}
 use lib.Seq.{take-all}
 use borrow.Author.Needs.{needs}
 use Rattle.block.specs.Bytes.{les}
-use Rattle.planblock.proofs.Storing.{Begins, numbers-more}
+use Rattle.block.proofs.Storing.{Stored, stored-none, stored-first, stored-next}
 use Rattle.probe.proofs.put_lines.Statement.{statement}
 use Rattle.probe.proofs.put_lines.Tie as tie
 
 abbrev Inv-loop : tie.InvT-loop
 Inv-loop out₀ lines w₀ out w =
-    (w ≤ 8) × (length out ≡ length out₀) × (length (lines .words) ≡ 8) × Begins (8 * w) out (les 8 (take w (lines .words)))
+    (w ≤ 8) × (length out ≡ length out₀) × (length (lines .words) ≡ 8) × Stored (8 * w) out₀ out (les 8 (take w (lines .words)))
 
 abbrev μ-loop : tie.MeasureT-loop
 μ-loop out₀ lines w₀ out w = 8 - w
 
 loop-holds : tie.Need-loop-holds Inv-loop μ-loop
 unfolding les
-loop-holds c = (search needs, search needs, search needs, (refl, refl))
+loop-holds c = (search needs, search needs, search needs, stored-none 0 (c .before .args .out .now) (omega arith))
 
 mul-put-u64 : tie.Need-mul-put-u64 Inv-loop μ-loop
 mul-put-u64 c = search needs
@@ -50,7 +50,7 @@ loop-again c =
       search needs,
       search needs,
       search needs,
-      rw (← next, add-one) (numbers-more 8 (8 * loop .w) (start .args .t1 .words) (loop .out) (c .before .before .put-u64 .last .0) [] (loop .w) (omega arith) (loop .inv .3) (c .before .before .put-u64 .ensures)),
+      rw (← next, add-one) (stored-next 8 (start .args .t1 .words) [] (loop .w) (omega arith) (loop .inv .3) (c .before .before .put-u64 .ensures)),
     )
 
 same-length : tie.Need-same-length Inv-loop μ-loop
@@ -60,7 +60,7 @@ returns : tie.Need-returns Inv-loop μ-loop
 returns c =
     let words = c .before .before .before .args .t1 .words in
     let all : c .before .loop .w ≡ 8 = omega arith in
-    rw (all, take-all 8 words (omega arith)) at (c .before .loop .inv .3 .0)
+    rw (all, take-all 8 words (omega arith)) at (stored-first (c .before .loop .inv .3))
 
 pub put-lines-spec : {M : Type 1} → statement M
 put-lines-spec =

@@ -27,7 +27,7 @@ returns c =
     let first = second .before .before .before .before .before in
     let start = first .before .before .before .before in
     let misses = start .args .misses in
-    two-stored (misses .alone) (misses .preempted) (start .args .out .now) (first .put-u64 .last .0) (second .put-u642 .last .0) (start .pre) (first .put-u64 .ensures)
+    two-stored (misses .alone) (misses .preempted) (start .args .out .now) (first .put-u64 .last .0) (second .put-u642 .last .0) (first .put-u64 .ensures)
     (second .put-u642 .ensures) (omega arith)
 
 pub put-misses-spec : {M : Type 1} → statement M

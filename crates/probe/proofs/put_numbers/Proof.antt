@@ -25,7 +25,7 @@ returns c =
     let first = second .before .before .before .before in
     let start = first .before .before .before in
     numbers-stored (start .args .a) (start .args .b) (start .args .c) (start .args .out .now) (first .put-u64 .last .0) (second .put-u642 .last .0) (third .put-u643 .last .0)
-    (start .pre) (first .put-u64 .ensures) (second .put-u642 .ensures) (third .put-u643 .ensures) (omega arith)
+    (first .put-u64 .ensures) (second .put-u642 .ensures) (third .put-u643 .ensures) (omega arith)
 
 pub put-numbers-spec : {M : Type 1} → statement M
 put-numbers-spec =

@@ -1,0 +1,37 @@
+-- What a writer of task files has stored so far (document 01, "Blocks of 512 bytes").
+-- Assumes nothing.
+use Prim.Native.Nat.{ℕ}
+use mathlib.Core.Path.{_≡_}
+use mathlib.Core.List.{List}
+use lib.ListN.{length, take}
+use Rattle.model.specs.Task.{Task, blockCount}
+use Rattle.block.specs.Bytes.{packed, fields}
+use Rattle.block.specs.Blocks.{numbered, sealedBlocks}
+use Rattle.taskfile.specs.File.{headerNumbers, wholeBlocks}
+use Rattle.writer.specs.declared.Header.{Header}
+
+-- the numbers of a task's header
+abbrev pub headerOf : Task → Header
+headerOf t =
+    record {
+      blocks = blockCount t;
+      preempters = length (t .preempters);
+      lines = t .lineCount;
+      limit = t .limit;
+      reload = t .reload;
+      id = t .id;
+      «scratch_first» = t .scratchFirst;
+      «scratch_count» = t .scratchCount;
+    }
+
+-- bytes 0 to 507 are those of the header of any task that has these numbers
+abbrev pub HeaderStored : Header → List ℕ → Type 0
+HeaderStored h bs = (t : Task) → headerOf t ≡ h → take 508 bs ≡ numbered 0 (packed (headerNumbers t))
+
+-- the first n numbers that a block reads, as they stand in it
+abbrev pub storedReads : List ℕ → ℕ → List ℕ
+storedReads bs n = fields bs 8 4 n
+
+-- bytes are blocks numbered from k, with these named bytes, but for the checksums
+unfoldable pub Written : ℕ → List (List ℕ) → List ℕ → Type 0
+Written k names bs = sealedBlocks (length names) bs ≡ wholeBlocks k names

@@ -1,0 +1,81 @@
+// Task files, written block by block: each function stores one block in 512 lent bytes, all but its checksum. `block::seal_blocks` stores
+// the checksums once all blocks stand, so that four of them are computed side by side.
+ghost use mathlib.Core.Path.{_≡_};
+ghost use mathlib.Core.List.{[], _∷_, _++_};
+ghost use Prim.Native.Nat.{_+_, _<_, _≤_};
+ghost use lib.ListN.{length, take};
+ghost use Rattle.block.specs.Blocks.{numbered};
+ghost use Rattle.taskfile.specs.File.{entryBytes, basicBytes, preempterBytes};
+ghost use Rattle.writer.specs.Writing.{HeaderStored, storedReads};
+
+// Where the header's named bytes end.
+const HEADER_END: usize = 28;
+
+// The numbers of a header, each as wide as it stands there.
+pub struct Header {
+    pub blocks: u16,
+    pub preempters: u16,
+    pub lines: u16,
+    pub limit: u32,
+    pub reload: u32,
+    pub id: u32,
+    pub scratch_first: u32,
+    pub scratch_count: u32,
+}
+
+// Stores a header. The first two bytes are the kind, 1, and a zero.
+pub fn put_header(block: &mut [u8], header: Header)
+    requires { ⌜ length (now block) ≡ 512 ⌝ }
+    ensures { λ _. ⌜ HeaderStored header (now (block .exit)) ⌝ }
+{
+    block::put_u16(block, 0, 1);
+    block::put_u16(block, 2, header.blocks);
+    block::put_u16(block, 4, header.preempters);
+    block::put_u16(block, 6, header.lines);
+    block::put_u32(block, 8, header.limit);
+    block::put_u32(block, 12, header.reload);
+    block::put_u32(block, 16, header.id);
+    block::put_u32(block, 20, header.scratch_first);
+    block::put_u32(block, 24, header.scratch_count);
+    block::close_body(block, HEADER_END, 0);
+}
+
+// Stores number j that a basic block or a preempter block reads, behind those before it.
+pub fn put_read(block: &mut [u8], j: usize, m: u32)
+    requires { ⌜ length (now block) ≡ 512 ⌝ }
+    requires { ⌜ j < 124 ⌝ }
+    ensures { λ _. ⌜ storedReads (now (block .exit)) (j + 1) ≡ storedReads (now (block .entry)) j ++ (m ∷ []) ⌝ }
+{
+    block::put_u32(block, 8 + 4 * j, m);
+}
+
+// Stores what else stands in a block whose numbers are stored.
+fn close_entry(block: &mut [u8], number: u32, kind: u8, byte_1: u8, x: u32, count: usize)
+    requires { ⌜ length (now block) ≡ 512 ⌝ }
+    requires { ⌜ count ≤ 124 ⌝ }
+    ensures { λ _. ⌜ take 508 (now (block .exit)) ≡ numbered number (entryBytes kind byte_1 x (storedReads (now (block .entry)) count)) ⌝ }
+{
+    block::put_u8(block, 0, kind);
+    block::put_u8(block, 1, byte_1);
+    block::put_u16(block, 2, count as u16);
+    block::put_u32(block, 4, x);
+    block::close_body(block, 8 + 4 * count, number);
+}
+
+// Stores what else stands in a basic block whose numbers are stored.
+pub fn close_basic(block: &mut [u8], number: u32, time: u32, count: usize)
+    requires { ⌜ length (now block) ≡ 512 ⌝ }
+    requires { ⌜ count ≤ 124 ⌝ }
+    ensures { λ _. ⌜ take 508 (now (block .exit)) ≡ numbered number (basicBytes (record { time = time; reads = storedReads (now (block .entry)) count })) ⌝ }
+{
+    close_entry(block, number, 2, 0, time, count);
+}
+
+// Stores what else stands in a preempter block whose numbers are stored.
+pub fn close_preempter(block: &mut [u8], number: u32, id: u32, count: usize)
+    requires { ⌜ length (now block) ≡ 512 ⌝ }
+    requires { ⌜ count ≤ 124 ⌝ }
+    ensures { λ _. ⌜ take 508 (now (block .exit)) ≡ numbered number (preempterBytes (record { id = id; reads = storedReads (now (block .entry)) count })) ⌝ }
+{
+    close_entry(block, number, 3, 0, id, count);
+}

@@ -1,5 +1,5 @@
 #!/bin/sh
-# Runs the programs plan, price, next_read, useful and replay, and says where they print something else than documents 01 and 02 have.
+# Runs the programs plan, price, next_read, useful, replay and generate, and says where they print something else than documents 01 and 02 have.
 set -u
 cd "$(dirname "$0")/.."
 seven=crates/planner_cases/data/seven
@@ -8,7 +8,8 @@ high=crates/planner_cases/data/high-70
 damaged=crates/taskfile_cases/data
 failed=0
 errors=$(mktemp)
-trap 'rm -f "$errors"' EXIT
+made=$(mktemp)
+trap 'rm -f "$errors" "$made"' EXIT
 
 # prints FILE LINES PROGRAM ARGUMENT..: on the file, the program prints these lines, and nothing on standard error
 prints() {
@@ -27,6 +28,17 @@ usage() {
     [ -z "$printed" ] && [ "$(wc -l <"$errors")" -eq 1 ] && grep -q '^usage: ' "$errors" && return
     failed=1
     printf '%s\nshould print a line of usage, and printed\n%s\n' "$*" "$printed"
+    cat "$errors"
+}
+
+# reports LINE PROGRAM ARGUMENT..: the program prints this line on standard error, and nothing else
+reports() {
+    line=$1
+    shift
+    printed=$("target/bin/$@" </dev/null 2>"$errors")
+    [ -z "$printed" ] && [ "$(cat "$errors")" = "$line" ] && return
+    failed=1
+    printf '%s\nshould report\n%s\nand printed\n%s\n' "$*" "$line" "$printed"
     cat "$errors"
 }
 
@@ -185,5 +197,22 @@ usage useful 18446744073709551616
 
 usage replay x
 usage replay $(seq 70) 65536
+
+# a file from a seed is written whole and accepted: its refusals 1 to 5 would come before 7
+for numbers in '0 1 0 1 0 0' '7 16 3 256 20000 25' '4294967295 64 32 512 4294967295 4294967295'; do
+    target/bin/generate $numbers >"$made" 2>"$errors" && [ ! -s "$errors" ] || failed=1
+    prints "$made" 'refused 7 at 0' price 0
+done
+[ "$(wc -c <"$made")" -eq 49664 ] || { failed=1; echo 'the largest file from a seed is not 49664 bytes'; }
+reports 'refused 10 at 0' generate 1 0 0 1 0 0
+reports 'refused 10 at 0' generate 1 65 0 1 0 0
+reports 'refused 10 at 0' generate 1 1 33 1 0 0
+reports 'refused 10 at 0' generate 1 1 0 513 0 0
+reports 'refused 10 at 0' generate 1 4294967295 4294967295 1 0 0
+usage generate
+usage generate 1 1 0 1 0
+usage generate 1 1 0 1 0 0 0
+usage generate 4294967296 1 0 1 0 0
+usage generate 1 1 0 1 0 x
 
 exit $failed

@@ -36,6 +36,23 @@ fn wrong_of<const C: usize>(blocks: &[u8]) -> Option<usize> {
         .position(|(block, check)| stored(block) != check)
 }
 
+fn store_of<const C: usize>(blocks: &mut [u8]) {
+    let checks = checks_of::<C>(blocks);
+    for (block, check) in blocks.chunks_exact_mut(BLOCK).zip(checks) {
+        block[508..].copy_from_slice(&check.to_le_bytes());
+    }
+}
+
+/// Stores every block's check.
+pub fn store_checks(file: &mut [u8]) {
+    for blocks in file.chunks_mut(4 * BLOCK) {
+        match blocks.len() / BLOCK {
+            4 => store_of::<4>(blocks),
+            _ => blocks.chunks_mut(BLOCK).for_each(store_of::<1>),
+        }
+    }
+}
+
 /// Lowest block whose check is wrong.
 pub fn lowest_wrong(file: &[u8]) -> Option<usize> {
     let mut done = 0;

@@ -1,4 +1,4 @@
-//! Times the planner's two calls, its search for the next read, U(k) and the replay against the same
+//! Times the planner's two calls, its search for the next read, U(k), the replay and the making of a file from a seed against the same
 //! work written for speed in plain Rust, in one process and in turns. Every figure is the median of
 //! many rounds.
 
@@ -6,6 +6,7 @@ mod by_line;
 mod checks;
 mod fast;
 mod files;
+mod generate;
 mod line_sets;
 mod replays;
 mod searches;
@@ -47,6 +48,16 @@ extern "C" {
         file_len: usize,
         points: *const u16,
         points_len: usize,
+        out: *mut u8,
+        out_len: usize,
+    ) -> u32;
+    fn probe_generate(
+        seed: u32,
+        n: u32,
+        m: u32,
+        s: u32,
+        q: u32,
+        r: u32,
         out: *mut u8,
         out_len: usize,
     ) -> u32;
@@ -94,6 +105,10 @@ fn planner_replay(file: &[u8], points: &[u16], out: &mut [u8]) -> u32 {
             len,
         )
     }
+}
+
+fn planner_generate(seed: u32, n: u32, m: u32, out: &mut [u8]) -> u32 {
+    unsafe { probe_generate(seed, n, m, 512, 5000, 10, out.as_mut_ptr(), out.len()) }
 }
 
 /// Microseconds for one of `count` runs.
@@ -324,6 +339,46 @@ fn replay_row(name: &str, file: &[u8], points: &[u16]) {
     );
 }
 
+/// A file from a seed, made over the one before: the buffer is not cleared first.
+fn generate_row(name: &str, n: u32, m: u32) {
+    let mut files = [(); 2].map(|_| vec![0xFF; 512 * (1 + n + m) as usize]);
+    let [ours, plain] = &mut files;
+    let codes = [
+        planner_generate(7, n, m, ours),
+        generate::generate(7, n, m, 512, 5000, 10, plain),
+    ];
+    let same = codes == [0, 0] && ours == plain;
+    let (mut ours_seed, mut plain_seed) = (0, 0);
+    let [planner, rust] = medians([
+        &mut || {
+            ours_seed += 1;
+            black_box(planner_generate(
+                black_box(ours_seed),
+                n,
+                m,
+                black_box(ours),
+            ));
+        },
+        &mut || {
+            plain_seed += 1;
+            black_box(generate::generate(
+                black_box(plain_seed),
+                n,
+                m,
+                512,
+                5000,
+                10,
+                black_box(plain),
+            ));
+        },
+    ]);
+    println!(
+        "{name} made from a seed{}\n  make   planner {planner:9.2} us   plain {rust:8.2} us, ratio {:5.2}",
+        if same { "" } else { ", FILES DIFFER" },
+        planner / rust
+    );
+}
+
 fn main() {
     println!("plain: line sets of eight words, carried unions; by line: one word per line");
     println!("all three hash four blocks side by side; medians of {ROUNDS} rounds in turns");
@@ -370,6 +425,8 @@ fn main() {
         replay_row("largest file", &file, points);
     }
     replay_row("File Seven", &seven(), &[1, 2]);
+    generate_row("largest file", 64, 32);
+    generate_row("file of five blocks", 3, 1);
     println!("growth, Q without limit:");
     let unlimited = |n, r| {
         drawn(&Shape {

@@ -1,4 +1,4 @@
-//! The six calls under test.
+//! The calls under test.
 
 #[cfg(not(feature = "stub"))]
 mod linked {
@@ -48,6 +48,16 @@ mod linked {
             out: *mut u8,
             out_len: usize,
         ) -> u32;
+        pub fn probe_generate(
+            seed: u32,
+            n: u32,
+            m: u32,
+            s: u32,
+            q: u32,
+            r: u32,
+            out: *mut u8,
+            out_len: usize,
+        ) -> u32;
     }
 }
 
@@ -56,5 +66,6 @@ pub use linked::*;
 
 #[cfg(feature = "stub")]
 pub use crate::stub::{
-    preempt_plan, preempt_price, probe_next_read, probe_region, probe_replay, probe_useful,
+    preempt_plan, preempt_price, probe_generate, probe_next_read, probe_region, probe_replay,
+    probe_useful,
 };

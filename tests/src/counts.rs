@@ -2,7 +2,7 @@
 
 pub struct Counts(Vec<(String, u64)>);
 
-const SHAPES: [&str; 59] = [
+const SHAPES: [&str; 62] = [
     "2 above block 0",
     "5 in a basic block",
     "5 in an interrupter",
@@ -62,6 +62,9 @@ const SHAPES: [&str; 59] = [
     "end-aligned file",
     "start-aligned file",
     "file at an odd place",
+    "file from a seed",
+    "97 blocks made",
+    "10 before 9",
 ];
 
 impl Counts {
@@ -79,6 +82,7 @@ impl Counts {
             ("next", &["0", "1", "2", "3", "4", "5", "7", "9"][..]),
             ("region", &["0", "1", "2", "3", "4", "5", "7", "9"][..]),
             ("replay", &["0", "1", "2", "3", "4", "5", "7", "9"][..]),
+            ("generate", &["0", "9", "10"][..]),
         ] {
             all.extend(answers.iter().map(|a| (format!("{call}: {a}"), 0)));
         }

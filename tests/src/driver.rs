@@ -1,12 +1,17 @@
 //! Makes one call on guarded buffers and compares everything with the reference.
 
 use crate::calls::{
-    preempt_plan, preempt_price, probe_next_read, probe_region, probe_replay, probe_useful,
+    preempt_plan, preempt_price, probe_generate, probe_next_read, probe_region, probe_replay,
+    probe_useful,
 };
+use crate::generator::Request;
 use crate::pages::{Lane, Side};
 use crate::reference::{hex, points_in, Call, Reference, Refusal};
 use crate::rng::Rng;
 use crate::watch;
+
+/// Pages of the buffer for a generated file: 97 blocks and some.
+const MADE_PAGES: usize = 14;
 
 pub enum Outcome {
     Refused(Refusal),
@@ -18,6 +23,7 @@ pub struct Driver {
     file: Lane,
     points: Lane,
     out: Lane,
+    made: Lane,
     file_at: *const u8,
     file_len: usize,
     pub calls: u64,
@@ -47,6 +53,7 @@ impl Driver {
             file,
             points: Lane::new(40),
             out: Lane::new(1),
+            made: Lane::new(MADE_PAGES),
             file_at,
             file_len: 0,
             calls: 0,
@@ -114,19 +121,59 @@ impl Driver {
                 unsafe { probe_replay(file, file_len, at, count, out, out_len) }
             }
         };
-        let after = self.out.bytes();
-        let end = from + out_len;
-        if after[..from] != before[..from] || after[end..] != before[end..] {
-            let i = (0..from)
-                .chain(end..after.len())
-                .find(|&i| after[i] != before[i])
-                .unwrap();
-            return Err(format!(
-                "expected: nothing written beside the output\ngot: byte {} from its start changed",
-                i as isize - from as isize
-            ));
+        let (before, after) = within(&before, self.out.bytes(), from, out_len)?;
+        Ok((code, before, after))
+    }
+
+    /// The longest buffer that a file can be generated into.
+    pub fn most_made(&self) -> usize {
+        self.made.bytes().len()
+    }
+
+    /// Makes a file from a seed, and compares all of its bytes.
+    pub fn check_generated(
+        &mut self,
+        rng: &mut Rng,
+        request: &Request,
+        out_len: usize,
+    ) -> Result<Option<Refusal>, String> {
+        let side = random_side(rng);
+        rng.fill(self.made.bytes_mut());
+        let before = self.made.bytes().to_vec();
+        let from = self.made.offset(out_len, side);
+        let out = self.made.pointer(out_len, side);
+        self.calls += 1;
+        watch::call(
+            format!("probe_generate, {request:?}, out of {out_len}"),
+            &[],
+        );
+        let Request {
+            seed,
+            n,
+            m,
+            s,
+            q,
+            r,
+        } = *request;
+        let code = unsafe { probe_generate(seed, n, m, s, q, r, out, out_len) };
+        let (before, after) = within(&before, self.made.bytes(), from, out_len)?;
+        let refusal = request.refused(out_len);
+        let right = refusal.map_or(0, Refusal::code);
+        if code != right {
+            return Err(format!("expected: code {right}\ngot: code {code}"));
         }
-        Ok((code, before[from..end].to_vec(), after[from..end].to_vec()))
+        let left = if refusal.is_some() {
+            before
+        } else {
+            request.file()
+        };
+        match (0..out_len).find(|&i| after[i] != left[i]) {
+            None => Ok(refusal),
+            Some(i) => Err(format!(
+                "expected: {} at byte {i}\ngot: {}",
+                left[i], after[i]
+            )),
+        }
     }
 
     pub fn check(
@@ -184,4 +231,25 @@ impl Driver {
             },
         }
     }
+}
+
+/// The lent bytes before and after a call, or which byte beside them changed.
+fn within(
+    before: &[u8],
+    after: &[u8],
+    from: usize,
+    len: usize,
+) -> Result<(Vec<u8>, Vec<u8>), String> {
+    let end = from + len;
+    if after[..from] != before[..from] || after[end..] != before[end..] {
+        let i = (0..from)
+            .chain(end..after.len())
+            .find(|&i| after[i] != before[i])
+            .unwrap();
+        return Err(format!(
+            "expected: nothing written beside the output\ngot: byte {} from its start changed",
+            i as isize - from as isize
+        ));
+    }
+    Ok((before[from..end].to_vec(), after[from..end].to_vec()))
 }

@@ -90,7 +90,7 @@ const EDGE_LINES: [usize; 17] = [
     1, 2, 3, 4, 5, 7, 8, 16, 31, 64, 100, 255, 256, 257, 300, 511, 512,
 ];
 
-fn any_word(rng: &mut Rng) -> u32 {
+pub fn any_word(rng: &mut Rng) -> u32 {
     match rng.below(6) {
         0 => 0,
         1 => u32::MAX,
@@ -113,7 +113,7 @@ fn number_on(rng: &mut Rng, line: usize, lines: usize) -> u32 {
     (line + lines * times) as u32
 }
 
-fn random_n(rng: &mut Rng) -> usize {
+pub fn random_n(rng: &mut Rng) -> usize {
     match rng.below(200) {
         0..=9 => 1,
         10..=24 => rng.between(2, 3),
@@ -127,7 +127,7 @@ fn random_n(rng: &mut Rng) -> usize {
     }
 }
 
-fn random_m(rng: &mut Rng) -> usize {
+pub fn random_m(rng: &mut Rng) -> usize {
     match rng.below(20) {
         0 => 0,
         1..=15 => rng.between(1, 3),
@@ -136,7 +136,7 @@ fn random_m(rng: &mut Rng) -> usize {
     }
 }
 
-fn random_lines(rng: &mut Rng) -> usize {
+pub fn random_lines(rng: &mut Rng) -> usize {
     if rng.percent(70) {
         rng.pick(&EDGE_LINES)
     } else {

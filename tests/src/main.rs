@@ -8,6 +8,7 @@ mod counts;
 mod driver;
 mod files;
 mod fixed;
+mod generator;
 mod pages;
 mod reference;
 mod rng;
@@ -17,6 +18,7 @@ mod watch;
 
 use counts::Counts;
 use driver::{random_side, Driver, Outcome};
+use generator::Request;
 use pages::Side;
 use reference::{Call, Model, Reads, Reference, Task, BLOCK, MOST_BLOCKS};
 use rng::Rng;
@@ -206,9 +208,16 @@ fn run_case(
     rng: &mut Rng,
     case: u64,
 ) -> Result<(), String> {
-    let task = files::random_task(rng);
+    check_generated(driver, counts, rng, case)?;
+    let drawn = rng.percent(5);
+    let task = if drawn {
+        Request::random(rng).task()
+    } else {
+        files::random_task(rng)
+    };
+    counts.add_if(drawn, "file from a seed");
     let mut file = files::file_of(&task);
-    let mut kind = "whole".to_string();
+    let mut kind = if drawn { "from a seed" } else { "whole" }.to_string();
     if rng.percent(35) {
         kind = files::damage(rng, &mut file);
     }
@@ -407,6 +416,30 @@ fn count_search(counts: &mut Counts, task: &Task, line: usize, k: usize) {
     );
     counts.add_if(line >= task.lines && line < 512, "line of S or more");
     counts.add_if(line >= 512, "line of 512 or more");
+}
+
+/// A file from a seed, now and then with a number out of range or a buffer of another length.
+fn check_generated(
+    driver: &mut Driver,
+    counts: &mut Counts,
+    rng: &mut Rng,
+    case: u64,
+) -> Result<(), String> {
+    let mut request = Request::random(rng);
+    if rng.percent(30) {
+        request = request.damaged(rng);
+    }
+    let len = request.out_len(rng, driver.most_made());
+    watch::file(Some(case), "none", &[]);
+    let refusal = driver.check_generated(rng, &request, len)?;
+    let number = refusal.map_or(0, |r| r.number);
+    counts.add(&format!("generate: {number}"));
+    counts.add_if(number == 0 && len == MOST_BLOCKS * BLOCK, "97 blocks made");
+    counts.add_if(
+        number == 10 && request.length() != len as u64,
+        "10 before 9",
+    );
+    Ok(())
 }
 
 fn count_plan(counts: &mut Counts, reference: &Reference, points: &[usize]) {

@@ -1,12 +1,13 @@
-//! The six calls without the planner. They answer from the reference; with STUB_BUG set they
+//! The calls without the planner. They answer from the reference; with STUB_BUG set they
 //! answer from a second implementation that has that bug. STUB_BUG=none is that implementation
 //! without any. `opponent bugs` tries them all and says which are noticed.
 
+use crate::generator::Request;
 use crate::reference::{Call, Reference};
 use std::process::{Command, ExitCode};
 use std::sync::{Mutex, OnceLock};
 
-pub const BUGS: [&str; 143] = [
+pub const BUGS: [&str; 149] = [
     "line numbers in eight bits",
     "line numbers in nine bits with S 512 as 511",
     "number 0 as empty",
@@ -150,6 +151,12 @@ pub const BUGS: [&str; 143] = [
     "range counted as misses",
     "range first without a count refused",
     "byte 28 not looked at",
+    "the old state given",
+    "a count before the time",
+    "the state started again",
+    "numbers below 4095",
+    "9 before 10",
+    "no id made",
 ];
 
 fn bug() -> &'static str {
@@ -280,6 +287,111 @@ pub unsafe fn probe_replay(
 ) -> u32 {
     let points = std::slice::from_raw_parts(points, points_len);
     answer(file, file_len, &Call::Replay(points), out, out_len)
+}
+
+#[allow(clippy::too_many_arguments)]
+pub unsafe fn probe_generate(
+    seed: u32,
+    n: u32,
+    m: u32,
+    s: u32,
+    q: u32,
+    r: u32,
+    out: *mut u8,
+    out_len: usize,
+) -> u32 {
+    let request = Request {
+        seed,
+        n,
+        m,
+        s,
+        q,
+        r,
+    };
+    if !bug().is_empty() {
+        return made(&request, slice_mut(out, out_len));
+    }
+    if let Some(refusal) = request.refused(out_len) {
+        return refusal.code();
+    }
+    slice_mut(out, out_len).copy_from_slice(&request.file());
+    0
+}
+
+fn made(request: &Request, out: &mut [u8]) -> u32 {
+    let Request {
+        seed,
+        n,
+        m,
+        s,
+        q,
+        r,
+    } = *request;
+    let ranges = !(n == 0 || n > 64 || m > 32 || s == 0 || s > 512);
+    let long = request.length() == out.len() as u64;
+    if !long && (ranges || has("9 before 10")) {
+        return code(9, 0);
+    }
+    if !ranges {
+        return code(10, 0);
+    }
+    let mut state = seed;
+    let mut draw = |again: bool| {
+        if again {
+            state = seed;
+        }
+        let old = state;
+        state = state.wrapping_mul(1664525).wrapping_add(1013904223);
+        if has("the old state given") {
+            old >> 16
+        } else {
+            state >> 16
+        }
+    };
+    out.fill(0);
+    let most = if has("numbers below 4095") {
+        4095
+    } else {
+        4096
+    };
+    for (k, block) in out.chunks_mut(512).enumerate() {
+        let (kind, count) = match k as u32 {
+            0 => (1, 0),
+            k if k <= n => {
+                let mut time = draw(false);
+                let mut count = draw(false);
+                if has("a count before the time") {
+                    std::mem::swap(&mut time, &mut count);
+                }
+                block[4..8].copy_from_slice(&(1 + time % 1000).to_le_bytes());
+                (2, count % 125)
+            }
+            k => {
+                block[4..8].copy_from_slice(&(k - n - 1).to_le_bytes());
+                (3, draw(k == n + 1 && has("the state started again")) % 125)
+            }
+        };
+        block[0] = kind;
+        if k == 0 {
+            for (at, v) in [(2, n), (4, m), (6, s)] {
+                block[at..at + 2].copy_from_slice(&(v as u16).to_le_bytes());
+            }
+            let id = if has("no id made") { 0 } else { seed };
+            for (at, v) in [(8, q), (12, r), (16, id)] {
+                block[at..at + 4].copy_from_slice(&v.to_le_bytes());
+            }
+        } else {
+            block[2..4].copy_from_slice(&(count as u16).to_le_bytes());
+            for i in 0..count as usize {
+                let number = draw(false) % most;
+                block[8 + 4 * i..12 + 4 * i].copy_from_slice(&number.to_le_bytes());
+            }
+        }
+        block[504..508].copy_from_slice(&(k as u32).to_le_bytes());
+        let sum = check(block);
+        block[508..512].copy_from_slice(&sum.to_le_bytes());
+    }
+    0
 }
 
 static LAST: Mutex<Option<(Vec<u8>, Reference)>> = Mutex::new(None);

@@ -26,6 +26,7 @@ pub fn refusal_number(refusal: Refusal) -> u32
         Refusal::Argument(_) => 7,
         Refusal::AboveLimit(_) => 8,
         Refusal::Output => 9,
+        Refusal::OutOfRange => 10,
     }
 }
 
@@ -43,6 +44,7 @@ pub fn refusal_place(refusal: Refusal) -> usize
         Refusal::Argument(index) => index,
         Refusal::AboveLimit(region) => region,
         Refusal::Output => 0,
+        Refusal::OutOfRange => 0,
     }
 }
 

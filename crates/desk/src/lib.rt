@@ -166,10 +166,14 @@ pub fn print_argument(i: usize) {
     print(&text[..n]);
 }
 
+fn write_field(fd: i32, name: &[u8], n: u64) {
+    io::write_all(fd, name);
+    io::print_decimal(fd, n);
+}
+
 // A name and a number.
 pub fn print_field(name: &[u8], n: u64) {
-    print(name);
-    io::print_decimal(STDOUT_FILENO, n);
+    write_field(STDOUT_FILENO, name, n);
 }
 
 fn print_point(point: u16) {
@@ -200,11 +204,20 @@ pub fn print_lines(set: LineSet) {
     }
 }
 
+fn write_refusal(fd: i32, refusal: Refusal) {
+    write_field(fd, b"refused ", answers::refusal_number(refusal) as u64);
+    write_field(fd, b" at ", answers::refusal_place(refusal) as u64);
+    io::write_all(fd, b"\n");
+}
+
 // The line of a refusal.
 pub fn print_refusal(refusal: Refusal) {
-    print_field(b"refused ", answers::refusal_number(refusal) as u64);
-    print_field(b" at ", answers::refusal_place(refusal) as u64);
-    end_line();
+    write_refusal(STDOUT_FILENO, refusal);
+}
+
+// The line of a refusal on standard error, from a program whose standard output is a file.
+pub fn report_refusal(refusal: Refusal) {
+    write_refusal(STDERR_FILENO, refusal);
 }
 
 // The line of a verdict that has no value beside it.

@@ -15,11 +15,11 @@ use Rattle.model.specs.declared.Input.the-variants.{First, Second}
 use Rattle.model.specs.declared.Place.{Place}
 use Rattle.model.specs.declared.Place.the-variants.{Nowhere, At}
 use Rattle.model.specs.declared.Refusal.{Refusal}
-use Rattle.model.specs.declared.Refusal.the-variants.{Length, Checksum, WrongHeader, BlockCount, WrongBlock, NoPlacement, Argument, AboveLimit, Output}
+use Rattle.model.specs.declared.Refusal.the-variants.{Length, Checksum, WrongHeader, BlockCount, WrongBlock, NoPlacement, Argument, AboveLimit, Output, OutOfRange}
 use Rattle.model.specs.declared.Verdict.{Verdict}
 use Rattle.model.specs.declared.Verdict.the-variants.{Accepted, Refused}
 
-pub number-most : (r : Refusal) → number r ≤ 9
+pub number-most : (r : Refusal) → number r ≤ 10
 number-most Length = omega arith
 number-most (Checksum k) = omega arith
 number-most WrongHeader = omega arith
@@ -29,6 +29,7 @@ number-most NoPlacement = omega arith
 number-most (Argument i) = omega arith
 number-most (AboveLimit i) = omega arith
 number-most Output = omega arith
+number-most OutOfRange = omega arith
 
 -- an input's place is at most 97 more than the refusal's own
 pub of-most : (i : Input) (r : Refusal) → placeOf i r ≤ place r + mostBlocks

@@ -10,7 +10,7 @@ use Rattle.model.specs.declared.Input.the-variants.{First, Second}
 use Rattle.model.specs.declared.Place.{Place}
 use Rattle.model.specs.declared.Place.the-variants.{Nowhere, At}
 use Rattle.model.specs.declared.Refusal.{Refusal}
-use Rattle.model.specs.declared.Refusal.the-variants.{Length, Checksum, WrongHeader, BlockCount, WrongBlock, NoPlacement, Argument, AboveLimit, Output}
+use Rattle.model.specs.declared.Refusal.the-variants.{Length, Checksum, WrongHeader, BlockCount, WrongBlock, NoPlacement, Argument, AboveLimit, Output, OutOfRange}
 use Rattle.model.specs.declared.Verdict.{Verdict}
 use Rattle.model.specs.declared.Verdict.the-variants.{Accepted, Refused}
 
@@ -25,6 +25,7 @@ number NoPlacement = 6
 number (Argument i) = 7
 number (AboveLimit i) = 8
 number Output = 9
+number OutOfRange = 10
 
 -- the place: the lowest such block, index or region, and 0 where the table says so
 abbrev pub place : Refusal → ℕ
@@ -37,6 +38,7 @@ place NoPlacement = 0
 place (Argument i) = i
 place (AboveLimit i) = i
 place Output = 0
+place OutOfRange = 0
 
 -- the blocks of the largest file
 abbrev pub mostBlocks : ℕ

@@ -29,6 +29,7 @@ pub enum Refusal {
     Argument(usize),
     AboveLimit(usize),
     Output,
+    OutOfRange,
 }
 
 // The lowest place at which something does not hold.

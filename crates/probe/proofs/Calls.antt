@@ -1,11 +1,11 @@
 -- What the public calls answer can be returned, since their places are at most 97, and what they found is stored as one list.
 -- Assumes nothing.
-use Prim.Native.Nat.{ℕ, suc, _+_, _≤_}
+use Prim.Native.Nat.{ℕ, suc, _+_, _*_, _≤_}
 use mathlib.Core.Path.{_≡_, refl, sym, _∙_}
 use mathlib.Core.Bool.{Bool, true, false, cond, _&&_}
 use mathlib.Core.List.{List, [], _∷_, _++_, append-nil, append-assoc}
 use native.Mathlib.Omega.{arith}
-use lib.Dec.{leb, ltb}
+use lib.Dec.{eqb, leb, ltb}
 use lib.ListN.{length, take, drop}
 use lib.Seq.{drop-length, take-all}
 use borrow.Author.Tests.{ltb-true}
@@ -14,17 +14,18 @@ use Rattle.model.specs.Lists.{steps, lowest, rightPoint}
 use Rattle.model.specs.Answers.{place, verdictPlace, andThen, mostBlocks}
 use Rattle.model.specs.declared.Place.the-variants.{At}
 use Rattle.model.specs.declared.Refusal.{Refusal}
-use Rattle.model.specs.declared.Refusal.the-variants.{Argument}
+use Rattle.model.specs.declared.Refusal.the-variants.{Argument, Output, OutOfRange}
 use Rattle.model.specs.declared.Verdict.the-variants.{Accepted, Refused}
 use Rattle.model.proofs.Lists.{and-split}
 use Rattle.model.proofs.Places.{then-most, at-most}
-use Rattle.taskfile.specs.File.{verdict, taskOf}
+use Rattle.taskfile.specs.File.{verdict, taskOf, countsInRange}
 use Rattle.taskfile.proofs.Accepted.{few-blocks}
 use Rattle.taskfile.proofs.Places.{verdict-most}
 use Rattle.block.specs.Bytes.{le, les}
 use Rattle.block.proofs.Storing.{Stored, stored-none, stored-first, stored-number, les-snoc}
 use Rattle.planner.specs.Calls.{edgeVerdict, regionVerdict}
 use Rattle.replays.specs.Calls.{replayVerdict}
+use Rattle.testload.specs.Calls.{countsRow, outputRow, generateVerdict}
 
 -- one refusal, if a test fails
 test-most : (right : Bool) (x : Refusal) → place x ≤ mostBlocks → verdictPlace (cond right Accepted (Refused x)) ≤ mostBlocks
@@ -64,6 +65,13 @@ replay-most file ps =
     then-most (verdict file) _ mostBlocks (verdict-most file)
     (λ a. at-most (lowest (rightPoint n) 0 (steps 0 ps)) Argument Accepted mostBlocks
     (λ k e. omega (arith, wrong-within n 0 0 k ps (omega arith) e, few-blocks file a)) (omega arith))
+
+pub generate-most : (n m s : ℕ) (out : List ℕ) → verdictPlace (generateVerdict n m s out) ≤ mostBlocks
+unfolding generateVerdict countsRow outputRow
+generate-most n m s out =
+    then-most (countsRow n m s) (outputRow n m (length out)) mostBlocks
+    (test-most (countsInRange n m s) OutOfRange (omega arith))
+    (λ a. test-most (eqb (length out) (512 * (1 + n + m))) Output (omega arith))
 
 -- the words, and the length behind them
 pub region-stored : (ws bs new : List ℕ) (v : ℕ) → length bs ≡ 72 → take 64 bs ≡ les 8 ws → new ≡ take 64 bs ++ le 8 v ++ drop 72 bs

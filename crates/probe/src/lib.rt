@@ -1,12 +1,14 @@
-// For tests: the useful lines of an edge, the next read of a line, the loaded lines and the length of a region, and the misses of a replay, through
-// the public calls.
+// For tests: the useful lines of an edge, the next read of a line, the loaded lines and the length of a region, the misses of a replay, and files
+// from a seed, through the public calls.
 // A set is eight words of eight bytes, their lowest byte first, and other numbers have eight bytes too.
 ghost use mathlib.Core.List.{[], _∷_, _++_};
 ghost use mathlib.Core.Path.{_≡_};
 ghost use Prim.Native.Nat.{_≤_};
 ghost use lib.ListN.{length, take};
-ghost use Rattle.model.specs.Answers.{onAccepted};
+ghost use Rattle.model.specs.Answers.{returned, onAccepted};
+ghost use Rattle.model.specs.declared.Input.the-variants.{First};
 ghost use Rattle.block.specs.Bytes.{les};
+ghost use Rattle.testload.specs.Calls.{generateVerdict, generated};
 ghost use Rattle.probe.specs.Calls.{usefulReturned, usefulLeft, nextReturned, nextLeft, nextNumbers, regionReturned, regionLeft, replayReturned, replayLeft};
 use lineset::LineSet;
 use model::Input;
@@ -75,6 +77,24 @@ pub extern "C" fn probe_replay(file: &[u8], points: &[u16], out: &mut [u8]) -> u
     let found = replays::replay(file, points);
     let verdict = found.verdict;
     keep_misses(found, out);
+    answers::returned(Input::First, verdict)
+}
+
+// The task file of a seed.
+#[no_mangle]
+pub extern "C" fn probe_generate(
+    seed: u32,
+    blocks: u32,
+    preempters: u32,
+    lines: u32,
+    limit: u32,
+    reload: u32,
+    out: &mut [u8],
+) -> u32
+    ensures { λ r. ⌜ r ≡ returned First (generateVerdict blocks preempters lines (now (out .entry))) ⌝ }
+    ensures { λ _. ⌜ now (out .exit) ≡ generated seed blocks preempters lines limit reload (now (out .entry)) ⌝ }
+{
+    let verdict = testload::generate(seed, blocks, preempters, lines, limit, reload, out);
     answers::returned(Input::First, verdict)
 }
 

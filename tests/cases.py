@@ -105,9 +105,9 @@ class Task:
         return least[0][1] if 0 in least else None
 
 
-def seven(q, blocks=None, first=0, count=0):
+def seven(q, blocks=None, first=0, count=0, preempter=(1, [4, 1])):
     blocks = blocks or [(20, [0, 1]), (20, [2]), (20, [0]), (20, [5, 0])]
-    return Task(4, q, 10, 7, blocks, [(1, [4, 1])], first, count)
+    return Task(4, q, 10, 7, blocks, [preempter], first, count)
 
 
 # A file as the document has it, but that one or more bytes are changed: (block, position) to value.
@@ -249,21 +249,25 @@ def planner_tasks():
     lone = [(60, [0])]
     high = [(30, [300, 512]), (20, [512, 44, 300]), (20, [300, 512])]
     preempters = [(1, [812]), (2, [0])]  # lines 300 and 0
+    others = [(MOST, [1024, 0, 512]), (0, [300, 1324])]  # lines 0 and 300
     wide = [(MOST, [1]), (1, []), (0, [1]), (0, [1])]  # points 1 and 2 are in every list that fits; 3 reloads line 1 once more
     return [
         ("seven-70", seven(70)),  # 1 and 1, 2 cost the same, and 1 begins the other
         ("seven-60", seven(60)),
+        ("seven-60-other", seven(60, preempter=(9, [1, 8, 0]))),  # the lines of seven-60's preempter
         ("seven-40", seven(40)),
         ("seven-30", seven(30)),
         ("seven-29", seven(29)),
         ("seven-scratch", seven(60, first=0, count=1)),  # number 0 bypasses the cache
         ("seven-scratch-4", seven(60, first=4, count=1)),  # 4 does, which the preempter reads
+        ("seven-scratch-4-other", seven(60, first=4, count=1, preempter=(0, [4, 9, 4]))),  # line 1, as seven-scratch-4's
         ("one-60", seven(60, lone)),
         ("one-59", seven(59, lone)),
         ("last-read", seven(40, [(20, [0]), (20, [2]), (20, [0])])),  # the last read of line 0 is its only reload
         ("same-read", seven(60, [(20, [0])] * 4)),  # regions (1, 2), (2, 3) and (3, 4) reload line 0
         ("high-70", Task(512, 70, 10, 3, high, preempters)),
         ("high-45", Task(512, 45, 10, 3, high, preempters)),
+        ("high-45-other", Task(512, 45, 10, 3, high, others)),
         ("high-scratch", Task(512, 45, 10, 3, high, preempters, 300, 213)),  # 300 and 512 are the ends of the range
         ("wide", Task(512, MOST, MOST, MOST, wide, [(0, [1])])),
         ("largest", largest_task()),

@@ -42,6 +42,15 @@ reports() {
     cat "$errors"
 }
 
+# alike FILE OTHER PROGRAM ARGUMENT..: on both files, the program prints the same lines, and nothing on standard error
+alike() {
+    one=$1 other=$2
+    shift 2
+    printed=$("target/bin/$@" <"$one" 2>"$errors")
+    [ -n "$printed" ] || { failed=1; printf '%s < %s\nprinted nothing\n' "$*" "$one"; }
+    prints "$other" "$printed" "$@"
+}
+
 # File Seven
 at_1_2='task 7 blocks 4 points 2 lines 1 cost 10
 region 0 1 length 20
@@ -102,6 +111,21 @@ prints $seven-scratch 'read 5 looked 3' next_read 1 1
 prints $seven-scratch 'lines' useful 1
 prints $seven-scratch 'misses 3 with points 3' replay 1 2 3
 prints $damaged/scratch-first-beyond 'refused 3 at 0' plan
+
+# of the preempters nothing but their lines matters: other numbers, orders and ids, the same answers, refusals too
+for base in $seven-60 $seven-scratch-4 crates/planner_cases/data/high-45; do
+    alike $base $base-other plan
+    for list in '' 1 2 3 '1 2' '1 3' '2 3' '1 2 3' '2 2' 0 9; do
+        alike $base $base-other price $list
+        alike $base $base-other replay $list
+    done
+    for k in 0 1 2 3 4 5; do
+        alike $base $base-other useful $k
+        for line in 0 1 2 3 4 300 512; do
+            alike $base $base-other next_read $line $k
+        done
+    done
+done
 
 # the file's refusals come before those of the list
 prints /dev/null 'refused 1 at 0' price 2 2

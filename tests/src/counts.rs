@@ -2,7 +2,7 @@
 
 pub struct Counts(Vec<(String, u64)>);
 
-const SHAPES: [&str; 62] = [
+const SHAPES: [&str; 63] = [
     "2 above block 0",
     "5 in a basic block",
     "5 in an interrupter",
@@ -65,6 +65,7 @@ const SHAPES: [&str; 62] = [
     "file from a seed",
     "97 blocks made",
     "10 before 9",
+    "others, same lines",
 ];
 
 impl Counts {

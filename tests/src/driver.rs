@@ -125,6 +125,30 @@ impl Driver {
         Ok((code, before, after))
     }
 
+    /// Makes one call on each of two files, with the same bytes in the output, and compares what it returns and leaves.
+    pub fn check_alike(
+        &mut self,
+        rng: &mut Rng,
+        files: [&[u8]; 2],
+        call: &Call,
+        out_len: usize,
+    ) -> Result<(), String> {
+        let mut same = rng.clone();
+        self.lend_file(files[0], Side::End);
+        let one = self.ask(rng, call, out_len)?;
+        self.lend_file(files[1], Side::End);
+        let other = self.ask(&mut same, call, out_len)?;
+        if one == other {
+            return Ok(());
+        }
+        Err(format!(
+            "expected: the answer of the file with other interrupters on the same lines\ngot: code {} and {}, output {}",
+            one.0,
+            other.0,
+            if one.2 == other.2 { "the same" } else { "another" }
+        ))
+    }
+
     /// The longest buffer that a file can be generated into.
     pub fn most_made(&self) -> usize {
         self.made.bytes().len()

@@ -113,6 +113,50 @@ fn number_on(rng: &mut Rng, line: usize, lines: usize) -> u32 {
     (line + lines * times) as u32
 }
 
+/// The most numbers that a block reads.
+const MOST_READS: usize = 124;
+
+/// The same task with interrupters of other numbers, orders and ids that touch the same lines.
+pub fn renumbered(rng: &mut Rng, task: &Task) -> Task {
+    let mut interrupters: Vec<Reads> = (0..task.interrupters.len())
+        .map(|_| Reads {
+            word: any_word(rng),
+            numbers: Vec::new(),
+        })
+        .collect();
+    let old = task.interrupters.iter().flat_map(|r| &r.numbers);
+    let mut lines = vec![None; task.lines];
+    for &m in old.filter(|&&m| !task.scratch.has(m)) {
+        lines[m as usize % task.lines] = Some(m);
+    }
+    let touched: Vec<u32> = lines.into_iter().flatten().collect();
+    for (i, &m) in touched.iter().enumerate() {
+        let left = touched.len() - i - 1;
+        let times = rng.between(1, 3);
+        for again in 0..times {
+            let room: usize = interrupters
+                .iter()
+                .map(|r| MOST_READS - r.numbers.len())
+                .sum();
+            if again > 0 && room <= left {
+                break;
+            }
+            let new = number_on(rng, m as usize % task.lines, task.lines);
+            let number = if task.scratch.has(new) { m } else { new };
+            let open: Vec<usize> = (0..interrupters.len())
+                .filter(|&j| interrupters[j].numbers.len() < MOST_READS)
+                .collect();
+            let numbers = &mut interrupters[rng.pick(&open)].numbers;
+            let at = rng.between(0, numbers.len());
+            numbers.insert(at, number);
+        }
+    }
+    Task {
+        interrupters,
+        ..task.clone()
+    }
+}
+
 pub fn random_n(rng: &mut Rng) -> usize {
     match rng.below(200) {
         0..=9 => 1,

@@ -332,6 +332,40 @@ fn run_case(
             count_replay(counts, model, &reference::points_in(&list));
         }
     }
+    match &reference.model {
+        Some(model) if rng.percent(40) => {
+            check_alike(driver, counts, rng, &file, &model.task, &good)
+        }
+        _ => Ok(()),
+    }
+}
+
+/// Every call answers alike where the interrupters have other numbers, orders and ids, and touch the same lines.
+fn check_alike(
+    driver: &mut Driver,
+    counts: &mut Counts,
+    rng: &mut Rng,
+    file: &[u8],
+    task: &Task,
+    good: &[Vec<usize>],
+) -> Result<(), String> {
+    let n = task.blocks.len();
+    let other = files::file_of(&files::renumbered(rng, task));
+    counts.add_if(file != other, "others, same lines");
+    let (block, _) = files::random_points_block(rng, n, good);
+    let list = files::random_list(rng, n, good);
+    let (a, b) = random_region(rng, n);
+    for (call, right) in [
+        (Call::Plan, 512),
+        (Call::Price(&block), 512),
+        (Call::Useful(random_k(rng, n)), 64),
+        (Call::NextRead(random_line(rng, task), random_k(rng, n)), 24),
+        (Call::Region(a, b), 72),
+        (Call::Replay(&list), 16),
+    ] {
+        let len = out_len(rng, right);
+        driver.check_alike(rng, [file, &other], &call, len)?;
+    }
     Ok(())
 }
 

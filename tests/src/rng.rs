@@ -1,5 +1,6 @@
 //! A small random source. Every case has its own stream, so one case can be run again alone.
 
+#[derive(Clone)]
 pub struct Rng(u64);
 
 fn mix(mut z: u64) -> u64 {

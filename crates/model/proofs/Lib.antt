@@ -8,4 +8,5 @@ pub mod Order
 pub mod Regions
 pub mod Places
 pub mod Replay
+pub mod Seen
 pub mod Cases

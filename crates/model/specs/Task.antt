@@ -28,3 +28,17 @@ pub record Task : Type 0 where
 -- N, the number of basic blocks; edge k, from 0 to N, is the place after block k
 abbrev pub blockCount : Task → ℕ
 blockCount t = length (t .blocks)
+
+-- the same task with other preempters
+abbrev pub withPreempters : Task → List Preempter → Task
+withPreempters t ps =
+    record {
+      id = t .id;
+      lineCount = t .lineCount;
+      limit = t .limit;
+      reload = t .reload;
+      scratchFirst = t .scratchFirst;
+      scratchCount = t .scratchCount;
+      blocks = t .blocks;
+      preempters = ps;
+    }

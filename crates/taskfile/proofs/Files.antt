@@ -52,13 +52,13 @@ three-parts bs n m l =
     (take-all (512 + (512 * n + 512 * m)) bs (omega arith))
 
 module _ (file : List ℕ) (a : AcceptedFile file) where
-  first-block : blockIn file 0 ≡ sealed (numbered 0 (packed (headerNumbers (taskOf file))))
+  pub first-block : blockIn file 0 ≡ sealed (numbered 0 (packed (headerNumbers (taskOf file))))
   unfolding headerRight
   first-block =
       block-is 0 (packed (headerNumbers (taskOf file))) (blockIn file 0) (a .checksums 0 (omega arith))
       (and-split (headerInRange (taskOf file)) _ (a .header-right) .1)
 
-  basic-block : (k : ℕ) → 1 ≤ k → k < 1 + header file .blocks → blockIn file k ≡ sealed (numbered k (basicBytes (basicOf (blockIn file k))))
+  pub basic-block : (k : ℕ) → 1 ≤ k → k < 1 + header file .blocks → blockIn file k ≡ sealed (numbered k (basicBytes (basicOf (blockIn file k))))
   unfolding blockRight entryRight basicOf basicBytes
   basic-block k l u =
       let right = rw (le-leb k (header file .blocks) (omega arith)) at (a .blocks-right k l (omega arith)) in

@@ -1,0 +1,76 @@
+-- Of the preempters nothing but their lines matters (document 02, item 7): each call answers alike on two files that differ in their preempters
+-- alone, refusals and places included. The left sides are what the calls' contracts cite. Assumes nothing.
+use Prim.Native.Nat.{ℕ}
+use mathlib.Core.Path.{_≡_}
+use mathlib.Core.List.{List}
+use lib.ListN.{length}
+use Rattle.model.specs.Task.{Preempter, withPreempters}
+use Rattle.model.specs.Lines.{evicted}
+use Rattle.model.specs.declared.Plan.{Plan}
+use Rattle.model.specs.declared.Verdict.{Verdict}
+use Rattle.model.specs.declared.Verdict.the-variants.{Accepted}
+use Rattle.block.specs.Bytes.{Each}
+use Rattle.taskfile.specs.File.{taskOf, fileOf, verdict, EntryWithin}
+use Rattle.planner.specs.Calls.{edgeVerdict, usefulWords, nextReadOf, lookedOf, regionVerdict, loadedWords, lengthOf, priceVerdict, priceLines, priceCost, blockVerdict, blockInput, blockPlan, PlanAnswer}
+use Rattle.replays.specs.Calls.{replayVerdict, missesAloneOf, missesWithOf}
+use Rattle.firmware.specs.Calls.{PlanCall, priceReturned, priceLeft}
+use Rattle.samelines.specs.Files.{SameLines}
+
+-- an answer is the same for both files, as a function of whatever else is handed in
+abbrev pub Alike : {A : Type 0} → (List ℕ → A) → Type 0
+Alike answer = (file other : List ℕ) → SameLines file other → answer file ≡ answer other
+
+-- U(k), for every k
+abbrev pub UsefulAlike : Type 0
+UsefulAlike = Alike edgeVerdict × Alike usefulWords
+
+-- the search, for every line and k
+abbrev pub SearchAlike : Type 0
+SearchAlike = Alike edgeVerdict × Alike nextReadOf × Alike lookedOf
+
+-- a region's loaded lines and its length, for every a and b
+abbrev pub RegionAlike : Type 0
+RegionAlike = Alike regionVerdict × Alike loadedWords × Alike lengthOf
+
+-- pricing, for every list
+abbrev pub PriceAlike : Type 0
+PriceAlike = Alike priceVerdict × Alike priceLines × Alike priceCost
+
+-- pricing the points of a plan block, for every block
+abbrev pub BlockAlike : Type 0
+BlockAlike = Alike blockVerdict × Alike blockInput × Alike blockPlan
+
+-- a replay, for every list
+abbrev pub ReplayAlike : Type 0
+ReplayAlike = Alike replayVerdict × Alike missesAloneOf × Alike missesWithOf
+
+-- pricing from C, for every pair of blocks that are lent
+abbrev pub PriceCallAlike : Type 0
+PriceCallAlike = Alike priceReturned × Alike priceLeft
+
+-- planning: what is right for the one is right for the other
+abbrev pub PlanAlike : Type 0
+PlanAlike = (file other : List ℕ) → SameLines file other → (v : Verdict) (p : Plan) → PlanAnswer file v p → PlanAnswer other v p
+
+-- so the two answers are equal (document 02, item 1)
+abbrev pub PlansEqual : Type 0
+PlansEqual =
+    (file other : List ℕ) → SameLines file other → (v w : Verdict) (p q : Plan) → PlanAnswer file v p → PlanAnswer other w q → (v ≡ w) × (p ≡ q)
+
+-- planning from C: what may be returned and left for the one may be for the other
+abbrev pub PlanCallAlike : Type 0
+PlanCallAlike =
+    (file other : List ℕ) → SameLines file other → (block : List ℕ) (r : ℕ) (left : List ℕ) → PlanCall file block r left → PlanCall other block r left
+
+-- so equal numbers are returned and equal bytes left, where equal blocks are lent
+abbrev pub PlanCallsEqual : Type 0
+PlanCallsEqual =
+    (file other : List ℕ) → SameLines file other → (block : List ℕ) (r s : ℕ) (left right : List ℕ) → PlanCall file block r left → PlanCall other block s right
+    → (r ≡ s) × (left ≡ right)
+
+-- the numbers are free: any M preempters that fit a file and touch the lines of a file's own can take their place
+abbrev pub Replaced : Type 0
+Replaced =
+    (file : List ℕ) (ps : List Preempter) → verdict file ≡ Accepted → length ps ≡ length (taskOf file .preempters)
+    → Each (λ p. EntryWithin (p .id) (p .reads)) ps → ((c : ℕ) → evicted (taskOf file) c ≡ evicted (withPreempters (taskOf file) ps) c)
+    → SameLines file (fileOf (withPreempters (taskOf file) ps))

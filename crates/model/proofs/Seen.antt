@@ -6,7 +6,7 @@ use mathlib.Core.Path.{_≡_, refl, sym, ap, subst, _∙_, fun-ext}
 use mathlib.Core.List.{List, [], _∷_}
 use Rattle.model.specs.Task.{Block, Preempter, Task, blockCount, withPreempters}
 use Rattle.model.specs.Lines.{bypasses, lineOf, onLine, blockAt, stateAfter, nextRead, readsLookedAt, useful, accessed, evicted}
-use Rattle.model.specs.Regions.{unionAfter, timeAfter, loaded, regionLines, regionLength, regionFits, regionCost}
+use Rattle.model.specs.Regions.{timeAfter, loaded, regionLines, regionLength, regionFits, regionCost}
 use Rattle.model.specs.Replay.{Cache, emptyCache, miss, fetch, misses, after, atEdge, walk, missesWith, missesAlone}
 
 -- all that answers are made of is the same of two tasks

@@ -1,7 +1,7 @@
 -- Each call answers alike on both files: both are accepted, and what else an answer is made of is the same of their tasks.
 -- Assumes nothing.
 use Prim.Native.Nat.{ℕ}
-use mathlib.Core.Path.{_≡_, refl, sym, _∙_, fun-ext}
+use mathlib.Core.Path.{_≡_, sym, _∙_, fun-ext}
 use mathlib.Core.Logic.{_⊎_, inl, inr}
 use mathlib.Core.List.{List}
 use Rattle.model.specs.Task.{Task}

@@ -1,16 +1,15 @@
 -- A file with other preempters in place of its own: it is accepted, its task is the file's with them, and so its first blocks are the same bytes.
 -- Assumes nothing.
 use Prim.Native.Nat.{ℕ, zero, suc, _+_, _≤_}
-use mathlib.Core.Path.{_≡_, refl, sym, ap, _∙_}
+use mathlib.Core.Path.{_≡_, sym, ap, _∙_}
 use mathlib.Core.List.{List}
 use native.Mathlib.Omega.{arith}
 use lib.ListN.{length}
 use Rattle.model.specs.Task.{Block, Preempter, Task, withPreempters}
 use Rattle.model.specs.Lines.{blockAt, evicted}
-use Rattle.model.specs.declared.Verdict.the-variants.{Accepted}
 use Rattle.block.specs.Bytes.{Sized, packed, Each}
 use Rattle.block.specs.Blocks.{numbered, sealed}
-use Rattle.taskfile.specs.File.{blockIn, header, basicOf, taskOf, headerNumbers, basicBytes, fileOf, headerInRange, verdict, EntryWithin, Within}
+use Rattle.taskfile.specs.File.{blockIn, header, basicOf, taskOf, headerNumbers, basicBytes, fileOf, headerInRange, EntryWithin, Within}
 use Rattle.taskfile.proofs.Accepted.{AcceptedFile, accepted, block-count, block-at}
 use Rattle.taskfile.proofs.Files.{accepted-within, first-block, basic-block}
 use Rattle.taskfile.proofs.Tasks.{file-then-task}

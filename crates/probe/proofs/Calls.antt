@@ -25,7 +25,8 @@ use Rattle.block.specs.Bytes.{le, les}
 use Rattle.block.proofs.Storing.{Stored, stored-none, stored-first, stored-number, les-snoc}
 use Rattle.planner.specs.Calls.{edgeVerdict, regionVerdict}
 use Rattle.replays.specs.Calls.{replayVerdict}
-use Rattle.testload.specs.Calls.{countsRow, outputRow, generateVerdict}
+use Rattle.writer.specs.Writing.{outputRow}
+use Rattle.testload.specs.Calls.{countsRow, generateVerdict}
 
 -- one refusal, if a test fails
 test-most : (right : Bool) (x : Refusal) → place x ≤ mostBlocks → verdictPlace (cond right Accepted (Refused x)) ≤ mostBlocks

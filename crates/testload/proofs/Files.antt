@@ -16,10 +16,10 @@ use Rattle.block.specs.Blocks.{numbered, sealedBlocks}
 use Rattle.taskfile.specs.File.{headerNumbers, basicBytes, preempterBytes, countsInRange, scratchInRange, headerInRange, fileOf, Within}
 use Rattle.taskfile.proofs.Accepted.{row-holds, counts-range}
 use Rattle.taskfile.proofs.Tasks.{file-then-task}
-use Rattle.writer.specs.Writing.{headerOf, Written}
+use Rattle.writer.specs.Writing.{outputRow, headerOf, Written}
 use Rattle.writer.proofs.Laws.{written-task}
 use Rattle.testload.specs.Draws.{after, drawnList, afterReads, drawnBlock, afterBlock, drawnPreempter, drawnTask}
-use Rattle.testload.specs.Calls.{countsRow, outputRow, generateVerdict, generated}
+use Rattle.testload.specs.Calls.{countsRow, generateVerdict, generated}
 use Rattle.testload.specs.Statements.{GeneratedAccepted}
 use Rattle.testload.proofs.Draws.{length-drawn, blocks-within, preempters-within}
 

@@ -1,23 +1,19 @@
 -- What the call answers, and what it leaves in the lent buffer (document 02, item 6). Assumes nothing.
-use Prim.Native.Nat.{ℕ, _+_, _*_}
+use Prim.Native.Nat.{ℕ}
 use mathlib.Core.Bool.{cond}
 use mathlib.Core.List.{List}
-use lib.Dec.{eqb}
 use lib.ListN.{length}
 use Rattle.model.specs.Answers.{onAccepted, andThen}
-use Rattle.model.specs.declared.Refusal.the-variants.{Output, OutOfRange}
+use Rattle.model.specs.declared.Refusal.the-variants.{OutOfRange}
 use Rattle.model.specs.declared.Verdict.{Verdict}
 use Rattle.model.specs.declared.Verdict.the-variants.{Accepted, Refused}
 use Rattle.taskfile.specs.File.{countsInRange, fileOf}
+use Rattle.writer.specs.Writing.{outputRow}
 use Rattle.testload.specs.Draws.{drawnTask}
 
 -- refusal 10: N, M or S is out of its range
 unfoldable pub countsRow : ℕ → ℕ → ℕ → Verdict
 countsRow n m s = cond (countsInRange n m s) Accepted (Refused OutOfRange)
-
--- refusal 9: the buffer is not 1 + N + M blocks long
-unfoldable pub outputRow : ℕ → ℕ → ℕ → Verdict
-outputRow n m length = cond (eqb length (512 * (1 + n + m))) Accepted (Refused Output)
 
 -- the answer: the ranges are looked at first
 unfoldable pub generateVerdict : ℕ → ℕ → ℕ → List ℕ → Verdict

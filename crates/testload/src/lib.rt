@@ -8,7 +8,7 @@ ghost use Rattle.taskfile.specs.File.{basicBytes, preempterBytes, fileOf};
 ghost use Rattle.writer.specs.Writing.{storedReads, Written};
 ghost use Rattle.testload.specs.Draws as Draws;
 ghost use Rattle.testload.specs.Draws.{next, after, drawnList, drawnNumber, afterReads, drawnBlock, afterBlock, drawnPreempter, drawnTask};
-ghost use Rattle.testload.specs.Calls.{countsRow, outputRow, generateVerdict, generated};
+ghost use Rattle.testload.specs.Calls.{countsRow, generateVerdict, generated};
 use model::Refusal;
 use model::Verdict;
 use writer::Header;
@@ -153,17 +153,6 @@ fn check_counts(blocks: u32, preempters: u32, lines: u32) -> Verdict
     }
 }
 
-// Refuses a buffer of another length than the file's.
-fn check_output(blocks: u32, preempters: u32, length: usize) -> Verdict
-    ensures { λ r. ⌜ r ≡ outputRow blocks preempters length ⌝ }
-{
-    if length == 512 * (1 + blocks as usize + preempters as usize) {
-        Verdict::Accepted
-    } else {
-        Verdict::Refused(Refusal::Output)
-    }
-}
-
 // Fills a buffer with the task file of a seed: 10 for N, M and S, then 9 for the buffer's length. On a refusal the buffer stays what it was.
 pub fn generate(
     seed: u32,
@@ -178,7 +167,7 @@ pub fn generate(
     ensures { λ _. ⌜ now (out .exit) ≡ generated seed blocks preempters lines limit reload (now (out .entry)) ⌝ }
 {
     let counts = check_counts(blocks, preempters, lines);
-    let output = check_output(blocks, preempters, out.len());
+    let output = writer::check_output(blocks, preempters, out.len());
     let verdict = answers::earlier(counts, output);
     match verdict {
         Verdict::Accepted => put_task(seed, blocks, preempters, lines, limit, reload, out),

@@ -1,14 +1,23 @@
 -- What a writer of task files has stored so far (document 01, "Blocks of 512 bytes").
 -- Assumes nothing.
-use Prim.Native.Nat.{ℕ}
+use Prim.Native.Nat.{ℕ, _+_, _*_}
 use mathlib.Core.Path.{_≡_}
+use mathlib.Core.Bool.{cond}
 use mathlib.Core.List.{List}
+use lib.Dec.{eqb}
 use lib.ListN.{length, take}
 use Rattle.model.specs.Task.{Task, blockCount}
+use Rattle.model.specs.declared.Refusal.the-variants.{Output}
+use Rattle.model.specs.declared.Verdict.{Verdict}
+use Rattle.model.specs.declared.Verdict.the-variants.{Accepted, Refused}
 use Rattle.block.specs.Bytes.{packed, fields}
 use Rattle.block.specs.Blocks.{numbered, sealedBlocks}
 use Rattle.taskfile.specs.File.{headerNumbers, wholeBlocks}
 use Rattle.writer.specs.declared.Header.{Header}
+
+-- refusal 9 for a file that is written: the buffer is not 1 + N + M blocks long
+unfoldable pub outputRow : ℕ → ℕ → ℕ → Verdict
+outputRow n m length = cond (eqb length (512 * (1 + n + m))) Accepted (Refused Output)
 
 -- the numbers of a task's header
 abbrev pub headerOf : Task → Header

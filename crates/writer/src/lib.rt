@@ -6,7 +6,9 @@ ghost use Prim.Native.Nat.{_+_, _<_, _≤_};
 ghost use lib.ListN.{length, take};
 ghost use Rattle.block.specs.Blocks.{numbered};
 ghost use Rattle.taskfile.specs.File.{entryBytes, basicBytes, preempterBytes};
-ghost use Rattle.writer.specs.Writing.{HeaderStored, storedReads};
+ghost use Rattle.writer.specs.Writing.{outputRow, HeaderStored, storedReads};
+use model::Refusal;
+use model::Verdict;
 
 // Where the header's named bytes end.
 const HEADER_END: usize = 28;
@@ -21,6 +23,17 @@ pub struct Header {
     pub id: u32,
     pub scratch_first: u32,
     pub scratch_count: u32,
+}
+
+// Refuses a buffer that is not as long as a file of so many blocks.
+pub fn check_output(blocks: u32, preempters: u32, length: usize) -> Verdict
+    ensures { λ r. ⌜ r ≡ outputRow blocks preempters length ⌝ }
+{
+    if length == 512 * (1 + blocks as usize + preempters as usize) {
+        Verdict::Accepted
+    } else {
+        Verdict::Refused(Refusal::Output)
+    }
 }
 
 // Stores a header. The first two bytes are the kind, 1, and a zero.

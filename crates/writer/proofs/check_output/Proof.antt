@@ -1,10 +1,10 @@
--- `testload::check_output` meets its contract, by the test's two answers.
+-- `writer::check_output` meets its contract, by the test's two answers.
 -- Assumes nothing.
 use borrow.Author.Needs.{needs}
 use borrow.Author.Tests.{eq-eqb, ne-eqb}
-use Rattle.testload.specs.Calls.{outputRow}
-use Rattle.testload.proofs.check_output.Statement.{statement}
-use Rattle.testload.proofs.check_output.Tie as tie
+use Rattle.writer.specs.Writing.{outputRow}
+use Rattle.writer.proofs.check_output.Statement.{statement}
+use Rattle.writer.proofs.check_output.Tie as tie
 
 add-if1 : tie.Need-add-if1
 add-if1 c = search needs

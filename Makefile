@@ -1,5 +1,5 @@
 # make, make lib    prove the planner and build its static library
-# make parts        that, the tests' library and the programs plan, price, next_read, useful, replay and generate
+# make parts        that, the tests' library and the programs plan, price, next_read, useful, replay, generate and join
 # make example      build the C example and hold what it prints on File Seven to its file 'expected'
 # make release      the library, its header and how to link them, in one archive
 # make test-c       unpack the release and call it from C
@@ -14,7 +14,7 @@ VERSION := $(shell cat VERSION)
 SOURCES := crates.txt $(shell find crates -name '*.rt' -o -name '*.antt')
 LIB := target/staticlib/libfirmware.a
 PROBE := target/staticlib/libprobe.a
-PROGRAMS := $(addprefix target/bin/,plan price next_read useful replay generate)
+PROGRAMS := $(addprefix target/bin/,plan price next_read useful replay generate join)
 NAME := preempt-$(VERSION)
 RELEASE := target/release/$(NAME)
 UNPACKED := target/test-c/$(NAME)

@@ -1,4 +1,4 @@
-# Writes the inputs and the expected outputs of the programs taskfile_cases and planner_cases.
+# Writes the inputs and the expected outputs of the programs taskfile_cases, planner_cases and join.
 # Everything here is computed from documents 01 and 02, and nothing from the programs.
 import os
 import shutil
@@ -108,6 +108,13 @@ class Task:
 def seven(q, blocks=None, first=0, count=0, preempter=(1, [4, 1])):
     blocks = blocks or [(20, [0, 1]), (20, [2]), (20, [0]), (20, [5, 0])]
     return Task(4, q, 10, 7, blocks, [preempter], first, count)
+
+
+def join(one, other):
+    """Both tasks as one."""
+    assert (one.s, one.r, one.first, one.count) == (other.s, other.r, other.first, other.count)
+    blocks, preempters = one.blocks + other.blocks, one.preempters + other.preempters
+    return Task(one.s, min(one.q, other.q), one.r, one.ident, blocks, preempters, one.first, one.count)
 
 
 # A file as the document has it, but that one or more bytes are changed: (block, position) to value.
@@ -274,6 +281,17 @@ def planner_tasks():
     ]
 
 
+def joined_tasks():
+    ticket = Task(8, 100, 5, 21, [(30, [1, 2, 64]), (25, [3, 1])], [(501, [9])], 64, 8)
+    archive = Task(8, 90, 5, 22, [(20, [2, 3]), (35, [11, 65]), (15, [2, 3])], [(502, [10, 70]), (503, [])], 64, 8)
+    return [
+        ("ticket", ticket),
+        ("archive", archive),
+        ("ticket-archive", join(ticket, archive)),
+        ("archive-ticket", join(archive, ticket)),
+    ]
+
+
 LISTS = [[], [1], [2], [1, 2], [3], [1, 3], [2, 3], [1, 2, 3], [2, 2], [0], [4], [3, 1]]
 
 
@@ -315,7 +333,7 @@ def task_lines(name, task):
     return "".join(line + "\n" for line in lines)
 
 
-def write(name, files, stdout):
+def write(name, files, args, stdout):
     folder = os.path.join(ROOT, name)
     data = os.path.join(folder, "data")
     shutil.rmtree(data, ignore_errors=True)
@@ -324,24 +342,31 @@ def write(name, files, stdout):
         with open(os.path.join(data, file), "wb") as out:
             out.write(content)
     with open(os.path.join(folder, "args"), "w") as out:
-        out.write("".join(file + "\n" for file, _ in files))
-    with open(os.path.join(folder, "stdout"), "w") as out:
+        out.write("".join(arg + "\n" for arg in args))
+    with open(os.path.join(folder, "stdout"), "wb") as out:
         out.write(stdout)
 
 
 def write_taskfile_cases():
     cases = taskfile_cases()
-    assert len({name for name, _, _ in cases}) == len(cases)
+    names = [name for name, _, _ in cases]
+    assert len(set(names)) == len(names)
     lines = "".join(f"{name} {answer}\n" for name, _, answer in cases)
-    write("taskfile_cases", [(name, content) for name, content, _ in cases], lines)
+    write("taskfile_cases", [(name, content) for name, content, _ in cases], names, lines.encode())
 
 
 def write_planner_cases():
     tasks = planner_tasks()
     lines = "".join(task_lines(name, task) for name, task in tasks)
-    write("planner_cases", [(name, task.file()) for name, task in tasks], lines)
+    write("planner_cases", [(name, task.file()) for name, task in tasks], [name for name, _ in tasks], lines.encode())
+
+
+def write_join():
+    files = [(name, task.file()) for name, task in joined_tasks()]
+    write("join", files, ["ticket", "archive"], dict(files)["ticket-archive"])
 
 
 if __name__ == "__main__":
     write_taskfile_cases()
     write_planner_cases()
+    write_join()

@@ -1,15 +1,17 @@
 #!/bin/sh
-# Runs the programs plan, price, next_read, useful, replay and generate, and says where they print something else than documents 01 and 02 have.
+# Runs the programs plan, price, next_read, useful, replay, generate and join, and says where they print something else than documents 01 and 02 have.
 set -u
 cd "$(dirname "$0")/.."
 seven=crates/planner_cases/data/seven
 largest=crates/planner_cases/data/largest
 high=crates/planner_cases/data/high-70
 damaged=crates/taskfile_cases/data
+joined=crates/join/data
 failed=0
 errors=$(mktemp)
 made=$(mktemp)
-trap 'rm -f "$errors" "$made"' EXIT
+parts=$(mktemp -d)
+trap 'rm -rf "$errors" "$made" "$parts"' EXIT
 
 # prints FILE LINES PROGRAM ARGUMENT..: on the file, the program prints these lines, and nothing on standard error
 prints() {
@@ -40,6 +42,27 @@ reports() {
     failed=1
     printf '%s\nshould report\n%s\nand printed\n%s\n' "$*" "$line" "$printed"
     cat "$errors"
+}
+
+# makes FILE PROGRAM ARGUMENT..: the program writes something, which this file then has, and nothing on standard error
+makes() {
+    file=$1
+    shift
+    "target/bin/$@" </dev/null >"$file" 2>"$errors"
+    [ -s "$file" ] && [ ! -s "$errors" ] && return
+    failed=1
+    printf '%s\nshould write a file, and printed\n' "$*"
+    cat "$errors"
+}
+
+# writes FILE PROGRAM ARGUMENT..: the program writes the bytes of this file, and nothing on standard error
+writes() {
+    right=$1
+    shift
+    makes "$made" "$@"
+    cmp "$made" "$right" && return
+    failed=1
+    printf '%s\nshould write the bytes of %s\n' "$*" "$right"
 }
 
 # alike FILE OTHER PROGRAM ARGUMENT..: on both files, the program prints the same lines, and nothing on standard error
@@ -224,7 +247,7 @@ usage replay $(seq 70) 65536
 
 # a file from a seed is written whole and accepted: its refusals 1 to 5 would come before 7
 for numbers in '0 1 0 1 0 0' '7 16 3 256 20000 25' '4294967295 64 32 512 4294967295 4294967295'; do
-    target/bin/generate $numbers >"$made" 2>"$errors" && [ ! -s "$errors" ] || failed=1
+    makes "$made" generate $numbers
     prints "$made" 'refused 7 at 0' price 0
 done
 [ "$(wc -c <"$made")" -eq 49664 ] || { failed=1; echo 'the largest file from a seed is not 49664 bytes'; }
@@ -238,5 +261,86 @@ usage generate 1 1 0 1 0
 usage generate 1 1 0 1 0 0 0
 usage generate 4294967296 1 0 1 0 0
 usage generate 1 1 0 1 0 x
+
+# two files joined: the smaller Q, the first's id, the basic blocks of both, then the preempters of both
+writes $joined/ticket-archive join $joined/ticket $joined/archive
+prints "$made" 'task 21 blocks 5 points 1 lines 1 cost 5
+region 0 2 length 55
+region 2 5 length 75' plan
+writes $joined/archive-ticket join $joined/archive $joined/ticket
+prints "$made" 'task 22 blocks 5 points 2 lines 1 cost 5
+region 0 1 length 20
+region 1 2 length 35
+region 2 5 length 75' plan
+
+# of three files either two are joined first
+makes "$parts/three" join $joined/ticket-archive $joined/ticket
+writes "$parts/three" join $joined/ticket $joined/archive-ticket
+prints "$made" 'misses 5 with points 9' replay 2 3 5
+
+# the useful lines of a file are useful at the same edge of the joined one
+prints $joined/ticket 'lines 1' useful 1
+prints $joined/archive 'lines 2' useful 1
+prints $joined/archive 'lines 2' useful 2
+prints $joined/ticket-archive 'lines 1 2' useful 1
+prints $joined/ticket-archive 'lines 2 3' useful 2
+prints $joined/ticket-archive 'lines 2' useful 3
+prints $joined/ticket-archive 'lines 2' useful 4
+
+# File Seven with Q 60 and 40
+makes "$made" join $seven-60 $seven-40
+at_all='task 7 blocks 8 points 7 lines 5 cost 50
+region 0 1 length 20
+region 1 2 length 20
+region 2 3 length 30
+region 3 4 length 30
+region 4 5 length 30
+region 5 6 length 20
+region 6 7 length 30
+region 7 8 length 30'
+prints "$made" "$at_all" plan
+prints "$made" "$at_all" price 1 2 3 4 5 6 7
+prints "$made" 'refused 8 at 3' price 1 2 3
+prints "$made" 'refused 7 at 1' price 4 8
+prints "$made" 'lines 0' useful 1
+prints "$made" 'lines 0 2' useful 4
+prints "$made" 'lines 0' useful 7
+prints "$made" 'misses 6 with points 7' replay 4
+prints "$made" 'misses 6 with points 11' replay 1 2 3 4 5 6 7
+
+# 64 basic blocks and 32 preempters, and one more of either
+makes "$parts/63-31" generate 1 63 31 4 0 10
+makes "$parts/1-1" generate 2 1 1 4 0 10
+makes "$parts/2-1" generate 3 2 1 4 0 10
+makes "$parts/1-2" generate 4 1 2 4 0 10
+makes "$made" join "$parts/63-31" "$parts/1-1"
+[ "$(wc -c <"$made")" -eq 49664 ] || { failed=1; echo 'the largest joined file is not 49664 bytes'; }
+prints "$made" 'refused 7 at 63' replay $(seq 64)
+reports 'refused 12 at 0' join "$parts/63-31" "$parts/2-1"
+reports 'refused 12 at 0' join "$parts/1-2" "$parts/63-31"
+reports 'refused 12 at 0' join $largest $largest
+
+# another S, R or range, though it may have no number; before 12
+reports 'refused 11 at 0' join $seven-60 $high
+reports 'refused 11 at 0' join $high crates/planner_cases/data/wide
+reports 'refused 11 at 0' join $largest $high
+for byte in 20 21 22 23 24 25 26 27; do
+    reports 'refused 11 at 0' join $seven-60 $damaged/header-byte-$byte
+    reports 'refused 11 at 0' join $damaged/header-byte-$byte $seven-60
+done
+
+# the first file's refusals, then the second's with 97 added to the place, before 11
+for refused in 'len-0 1 0' 'len-50176 1 0' 'sum-block-0 2 0' 'sum-block-3 2 3' 'n-65 3 0' 'count-one-few 4 0' 'r-125 5 1' 'r-125-block-96 5 96'; do
+    set -- $refused
+    reports "refused $2 at $3" join $damaged/$1 $seven-60
+    reports "refused $2 at $3" join $damaged/$1 $damaged/len-0
+    reports "refused $2 at $3" join $damaged/$1 $damaged/sum-block-3
+    reports "refused $2 at $(($3 + 97))" join $seven-60 $damaged/$1
+    reports "refused $2 at $(($3 + 97))" join $largest $damaged/$1
+done
+
+usage join
+usage join $seven-60
+usage join $seven-60 $seven-60 $seven-60
 
 exit $failed

@@ -1,5 +1,5 @@
-//! Times the planner's two calls, its search for the next read, U(k), the replay and the making of a file from a seed against the same
-//! work written for speed in plain Rust, in one process and in turns. Every figure is the median of
+//! Times the planner's two calls, its search for the next read, U(k), the replay, the making of a file from a seed and the joining of two
+//! files against the same work written for speed in plain Rust, in one process and in turns. Every figure is the median of
 //! many rounds.
 
 mod by_line;
@@ -7,6 +7,7 @@ mod checks;
 mod fast;
 mod files;
 mod generate;
+mod join;
 mod line_sets;
 mod replays;
 mod searches;
@@ -61,6 +62,14 @@ extern "C" {
         out: *mut u8,
         out_len: usize,
     ) -> u32;
+    fn probe_join(
+        first: *const u8,
+        first_len: usize,
+        second: *const u8,
+        second_len: usize,
+        out: *mut u8,
+        out_len: usize,
+    ) -> u32;
 }
 
 const ROUNDS: usize = 151;
@@ -109,6 +118,19 @@ fn planner_replay(file: &[u8], points: &[u16], out: &mut [u8]) -> u32 {
 
 fn planner_generate(seed: u32, n: u32, m: u32, out: &mut [u8]) -> u32 {
     unsafe { probe_generate(seed, n, m, 512, 5000, 10, out.as_mut_ptr(), out.len()) }
+}
+
+fn planner_join(first: &[u8], second: &[u8], out: &mut [u8]) -> u32 {
+    unsafe {
+        probe_join(
+            first.as_ptr(),
+            first.len(),
+            second.as_ptr(),
+            second.len(),
+            out.as_mut_ptr(),
+            out.len(),
+        )
+    }
 }
 
 /// Microseconds for one of `count` runs.
@@ -379,6 +401,40 @@ fn generate_row(name: &str, n: u32, m: u32) {
     );
 }
 
+/// Two files joined, over the joined file before.
+fn join_row(name: &str, first: &[u8], second: &[u8]) {
+    let mut files = [(); 2].map(|_| vec![0xFF; first.len() + second.len() - 512]);
+    let [ours, plain] = &mut files;
+    let codes = [
+        planner_join(first, second, ours),
+        join::join(first, second, plain),
+    ];
+    let same = codes == [0, 0] && ours == plain;
+    let (first, second) = (|| black_box(first), || black_box(second));
+    let [checks] = medians([&mut || {
+        black_box([lowest_wrong(first()), lowest_wrong(second())]);
+    }]);
+    let [planner, rust] = medians([
+        &mut || {
+            black_box(planner_join(first(), second(), black_box(ours)));
+        },
+        &mut || {
+            black_box(join::join(first(), second(), black_box(plain)));
+        },
+    ]);
+    println!(
+        "{name}: {} blocks joined{}\n  join   planner {planner:9.2} us   plain {rust:8.2} us, ratio {:5.2}",
+        files[0].len() / 512,
+        if same { "" } else { ", FILES DIFFER" },
+        planner / rust
+    );
+    println!(
+        "  checksums read {checks:10.2} us   share of a join: planner {:.0}%, plain {:.0}%",
+        100.0 * checks / planner,
+        100.0 * checks / rust
+    );
+}
+
 fn main() {
     println!("plain: line sets of eight words, carried unions; by line: one word per line");
     println!("all three hash four blocks side by side; medians of {ROUNDS} rounds in turns");
@@ -427,6 +483,21 @@ fn main() {
     replay_row("File Seven", &seven(), &[1, 2]);
     generate_row("largest file", 64, 32);
     generate_row("file of five blocks", 3, 1);
+    let half = Shape {
+        n: 32,
+        m: 16,
+        ..largest
+    };
+    let other = Shape {
+        limit: 4000,
+        ..half
+    };
+    join_row(
+        "two halves of the largest file",
+        &drawn(&half),
+        &drawn(&other),
+    );
+    join_row("File Seven twice", &seven(), &seven());
     println!("growth, Q without limit:");
     let unlimited = |n, r| {
         drawn(&Shape {

@@ -58,6 +58,14 @@ mod linked {
             out: *mut u8,
             out_len: usize,
         ) -> u32;
+        pub fn probe_join(
+            first: *const u8,
+            first_len: usize,
+            second: *const u8,
+            second_len: usize,
+            out: *mut u8,
+            out_len: usize,
+        ) -> u32;
     }
 }
 
@@ -66,6 +74,6 @@ pub use linked::*;
 
 #[cfg(feature = "stub")]
 pub use crate::stub::{
-    preempt_plan, preempt_price, probe_generate, probe_next_read, probe_region, probe_replay,
-    probe_useful,
+    preempt_plan, preempt_price, probe_generate, probe_join, probe_next_read, probe_region,
+    probe_replay, probe_useful,
 };

@@ -2,7 +2,7 @@
 
 pub struct Counts(Vec<(String, u64)>);
 
-const SHAPES: [&str; 63] = [
+const SHAPES: [&str; 86] = [
     "2 above block 0",
     "5 in a basic block",
     "5 in an interrupter",
@@ -66,6 +66,29 @@ const SHAPES: [&str; 63] = [
     "97 blocks made",
     "10 before 9",
     "others, same lines",
+    "Q of the first",
+    "Q of the second",
+    "joined N 64",
+    "joined M 32",
+    "97 blocks joined",
+    "both refused",
+    "1 to 5 before 9",
+    "11 by S",
+    "11 by R",
+    "11 by range's first",
+    "11 by range's count",
+    "11 by empty ranges",
+    "11 before 12",
+    "11 before 9",
+    "12 by N",
+    "12 by M",
+    "12 before 9",
+    "joined file planned",
+    "joined file priced",
+    "joined file replayed",
+    "U of a part",
+    "U grows by joining",
+    "three files joined",
 ];
 
 impl Counts {
@@ -84,6 +107,13 @@ impl Counts {
             ("region", &["0", "1", "2", "3", "4", "5", "7", "9"][..]),
             ("replay", &["0", "1", "2", "3", "4", "5", "7", "9"][..]),
             ("generate", &["0", "9", "10"][..]),
+            (
+                "join",
+                &[
+                    "0", "1", "2", "3", "4", "5", "1+97", "2+97", "3+97", "4+97", "5+97", "9",
+                    "11", "12",
+                ][..],
+            ),
         ] {
             all.extend(answers.iter().map(|a| (format!("{call}: {a}"), 0)));
         }

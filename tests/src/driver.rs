@@ -1,26 +1,29 @@
 //! Makes one call on guarded buffers and compares everything with the reference.
 
 use crate::calls::{
-    preempt_plan, preempt_price, probe_generate, probe_next_read, probe_region, probe_replay,
-    probe_useful,
+    preempt_plan, preempt_price, probe_generate, probe_join, probe_next_read, probe_region,
+    probe_replay, probe_useful,
 };
 use crate::generator::Request;
+use crate::joiner::Pair;
 use crate::pages::{Lane, Side};
-use crate::reference::{hex, points_in, Call, Reference, Refusal};
+use crate::reference::{hex, points_in, Call, Reference, Refusal, BLOCK};
 use crate::rng::Rng;
 use crate::watch;
 
-/// Pages of the buffer for a generated file: 97 blocks and some.
+/// Pages of the buffer for a file that a call makes: 97 blocks and some.
 const MADE_PAGES: usize = 14;
 
 pub enum Outcome {
     Refused(Refusal),
     Planned(Vec<usize>),
     Answered,
+    Made(Vec<u8>),
 }
 
 pub struct Driver {
     file: Lane,
+    second: Lane,
     points: Lane,
     out: Lane,
     made: Lane,
@@ -51,6 +54,7 @@ impl Driver {
         let file_at = file.pointer(0, Side::End);
         Driver {
             file,
+            second: Lane::new(40),
             points: Lane::new(40),
             out: Lane::new(1),
             made: Lane::new(MADE_PAGES),
@@ -149,24 +153,58 @@ impl Driver {
         ))
     }
 
-    /// The longest buffer that a file can be generated into.
+    /// The longest buffer that a file can be made in.
     pub fn most_made(&self) -> usize {
         self.made.bytes().len()
     }
 
-    /// Makes a file from a seed, and compares all of its bytes.
+    /// Lends a buffer to a call that makes a file, and compares what it returns and all bytes.
+    fn check_made(
+        &mut self,
+        rng: &mut Rng,
+        out_len: usize,
+        call: impl FnOnce(*mut u8) -> u32,
+        refusal: Option<Refusal>,
+        file: impl FnOnce() -> Vec<u8>,
+    ) -> Result<Outcome, String> {
+        let side = random_side(rng);
+        let from = self.made.offset(out_len, side);
+        let out = self.made.pointer(out_len, side);
+        // Random bytes in the buffer and in a block's length beside it.
+        let lane = self.made.bytes_mut();
+        let end = lane.len().min(from + out_len + BLOCK);
+        rng.fill(&mut lane[from.saturating_sub(BLOCK)..end]);
+        let before = lane.to_vec();
+        self.calls += 1;
+        let code = call(out);
+        let (before, after) = within(&before, self.made.bytes(), from, out_len)?;
+        let right = refusal.map_or(0, Refusal::code);
+        if code != right {
+            return Err(format!(
+                "expected: {} at {}\ngot: {} at {}",
+                right / 65536,
+                right % 65536,
+                code / 65536,
+                code % 65536
+            ));
+        }
+        let left = if refusal.is_some() { before } else { file() };
+        if let Some(i) = (0..out_len).find(|&i| after[i] != left[i]) {
+            return Err(format!(
+                "expected: {} at byte {i}\ngot: {}",
+                left[i], after[i]
+            ));
+        }
+        Ok(refusal.map_or(Outcome::Made(after), Outcome::Refused))
+    }
+
+    /// Makes a file from a seed.
     pub fn check_generated(
         &mut self,
         rng: &mut Rng,
         request: &Request,
         out_len: usize,
-    ) -> Result<Option<Refusal>, String> {
-        let side = random_side(rng);
-        rng.fill(self.made.bytes_mut());
-        let before = self.made.bytes().to_vec();
-        let from = self.made.offset(out_len, side);
-        let out = self.made.pointer(out_len, side);
-        self.calls += 1;
+    ) -> Result<Outcome, String> {
         watch::call(
             format!("probe_generate, {request:?}, out of {out_len}"),
             &[],
@@ -179,24 +217,34 @@ impl Driver {
             q,
             r,
         } = *request;
-        let code = unsafe { probe_generate(seed, n, m, s, q, r, out, out_len) };
-        let (before, after) = within(&before, self.made.bytes(), from, out_len)?;
+        let call = |out| unsafe { probe_generate(seed, n, m, s, q, r, out, out_len) };
         let refusal = request.refused(out_len);
-        let right = refusal.map_or(0, Refusal::code);
-        if code != right {
-            return Err(format!("expected: code {right}\ngot: code {code}"));
-        }
-        let left = if refusal.is_some() {
-            before
-        } else {
-            request.file()
-        };
-        match (0..out_len).find(|&i| after[i] != left[i]) {
-            None => Ok(refusal),
-            Some(i) => Err(format!(
-                "expected: {} at byte {i}\ngot: {}",
-                left[i], after[i]
-            )),
+        self.check_made(rng, out_len, call, refusal, || request.file())
+    }
+
+    /// Joins two files.
+    pub fn check_joined(
+        &mut self,
+        rng: &mut Rng,
+        pair: &Pair,
+        out_len: usize,
+    ) -> Result<Outcome, String> {
+        self.lend_file(&pair.first, random_side(rng));
+        let (first, first_len) = (self.file_at, self.file_len);
+        let second = self.second.lend(&pair.second, random_side(rng));
+        let second_len = pair.second.len();
+        watch::call(format!("probe_join, out of {out_len}"), &[]);
+        let call = |out| unsafe { probe_join(first, first_len, second, second_len, out, out_len) };
+        let refusal = pair.refused(out_len);
+        self.check_made(rng, out_len, call, refusal, || pair.file())
+    }
+
+    /// U(k) of the file lent.
+    pub fn useful(&mut self, rng: &mut Rng, k: usize) -> Result<Vec<u8>, String> {
+        let (code, _, set) = self.ask(rng, &Call::Useful(k), 64)?;
+        match code {
+            0 => Ok(set),
+            _ => Err(format!("expected: 0\ngot: code {code}")),
         }
     }
 

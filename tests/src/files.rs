@@ -258,6 +258,14 @@ fn random_count(rng: &mut Rng, style: usize) -> usize {
 }
 
 pub fn random_task(rng: &mut Rng) -> Task {
+    let mut task = task_without_limit(rng);
+    let model = Model::new(task.clone());
+    task.limit = random_limit(rng, &model);
+    task
+}
+
+/// A random task with Q 0.
+pub fn task_without_limit(rng: &mut Rng) -> Task {
     let dense = rng.below(150) == 0;
     // Few lines, read over and over and struck often: the choice of points matters.
     let hard = !dense && rng.percent(30);
@@ -361,7 +369,7 @@ pub fn random_task(rng: &mut Rng) -> Task {
         _ => rng.between(1, 20) as u32,
     };
     let scratch = random_scratch(rng, &blocks, &interrupters);
-    let mut task = Task {
+    Task {
         lines: s,
         limit: 0,
         reload,
@@ -369,10 +377,7 @@ pub fn random_task(rng: &mut Rng) -> Task {
         scratch,
         blocks,
         interrupters,
-    };
-    let model = Model::new(task.clone());
-    task.limit = random_limit(rng, &model);
-    task
+    }
 }
 
 /// The numbers from first on and before end, or up to the last number that a range can have.

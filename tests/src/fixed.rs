@@ -3,6 +3,7 @@
 
 use crate::driver::{Driver, Outcome};
 use crate::files::{file_of, largest, reads, seven};
+use crate::joiner::Pair;
 use crate::pages::Side;
 use crate::reference::{
     empty_set, fnv1a, next_read, plan_block, points_in, put, replay, seal, set_bytes, Call, Found,
@@ -10,6 +11,7 @@ use crate::reference::{
 };
 use crate::rng::Rng;
 use crate::watch;
+use std::ops::Range;
 
 struct Fixed<'a> {
     driver: &'a mut Driver,
@@ -114,6 +116,39 @@ impl Fixed<'_> {
         self.driver
             .check(&mut self.rng, &self.reference, call, call.out_len())
             .map(|_| ())
+    }
+
+    /// Into an output that is longer by so many bytes than it should be.
+    fn join(&mut self, kind: &str, files: [&[u8]; 2], more: isize) -> Result<Outcome, String> {
+        watch::files(None, kind, &files);
+        let [first, second] = files.map(<[u8]>::to_vec);
+        let pair = Pair { first, second };
+        let len = pair.length().saturating_add_signed(more);
+        let len = len.min(self.driver.most_made());
+        self.driver.check_joined(&mut self.rng, &pair, len)
+    }
+
+    fn joined(&mut self, kind: &str, files: [&[u8]; 2], right: &Task) -> Result<(), String> {
+        match self.join(kind, files, 0)? {
+            Outcome::Made(file) if file == file_of(right) => Ok(()),
+            _ => Err("the reference doesn't join them so".to_string()),
+        }
+    }
+
+    fn not_joined(
+        &mut self,
+        kind: &str,
+        files: [&[u8]; 2],
+        more: isize,
+        right: (u32, u32),
+    ) -> Result<(), String> {
+        match self.join(kind, files, more)? {
+            Outcome::Refused(r) if (r.number, r.place) == right => Ok(()),
+            _ => Err(format!(
+                "the reference doesn't refuse with {} at {}",
+                right.0, right.1
+            )),
+        }
     }
 }
 
@@ -288,6 +323,7 @@ pub fn run(driver: &mut Driver) -> Result<(), String> {
     f.task("50,176 bytes", &task);
     f.refused(&Call::Plan, 1, 0)?;
 
+    joins(&mut f)?;
     changed_bits(&mut f)
 }
 
@@ -360,6 +396,102 @@ fn scratch(f: &mut Fixed) -> Result<(), String> {
     Ok(())
 }
 
+/// Two files joined.
+fn joins(f: &mut Fixed) -> Result<(), String> {
+    let (long, short) = (seven(60), one_block(70, 59));
+    let (file, other) = (file_of(&long), file_of(&short));
+    let mut right = Task {
+        limit: 59,
+        ..long.clone()
+    };
+    right.blocks.push(reads(70, &[0]));
+    f.joined("File Seven and one block", [&file, &other], &right)?;
+    right.id = 1;
+    right.blocks.rotate_right(1);
+    f.joined("one block and File Seven", [&other, &file], &right)?;
+    for more in [-3584, -512, -1, 1, 512] {
+        let files = [&file[..], &other];
+        f.not_joined("File Seven and one block", files, more, (9, 0))?;
+    }
+
+    let unlike = [
+        Task {
+            lines: 260,
+            ..long.clone()
+        },
+        Task {
+            reload: 11,
+            ..long.clone()
+        },
+        seven_with(1, 0),
+        seven_with(1 << 31, 0),
+        seven_with(0, 1),
+        seven_with(0, 1 << 31),
+        seven_with(4, 1),
+    ];
+    for task in &unlike {
+        let apart = file_of(task);
+        f.joined("alike", [&apart, &apart], &twice(task))?;
+        f.not_joined("unlike", [&file, &apart], 0, (11, 0))?;
+        f.not_joined("unlike", [&apart, &file], 512, (11, 0))?;
+    }
+
+    let most = largest();
+    let whole = file_of(&most);
+    let half = |blocks: Range<usize>, interrupters: Range<usize>| Task {
+        blocks: most.blocks[blocks].to_vec(),
+        interrupters: most.interrupters[interrupters].to_vec(),
+        ..most.clone()
+    };
+    let first = file_of(&half(0..32, 0..16));
+    let mut rest = half(32..64, 16..32);
+    rest.limit += 1;
+    rest.id += 1;
+    f.joined("two halves", [&first, &file_of(&rest)], &most)?;
+    let over = [half(31..64, 16..32), half(32..64, 15..32)].map(|task| file_of(&task));
+    for file in &over {
+        f.not_joined("65 or 33", [&first, file], 0, (12, 0))?;
+        f.not_joined("65 or 33", [file, &first], 512, (12, 0))?;
+    }
+    f.not_joined("twice the largest", [&whole, &whole], 0, (12, 0))?;
+    f.not_joined("another S, and N 68", [&whole, &file], 0, (11, 0))?;
+
+    let mut check = file.clone();
+    check[4 * BLOCK - 1] ^= 1;
+    let mut count = whole.clone();
+    put(&mut count, 96 * BLOCK + 2, 2, 125);
+    seal(&mut count[96 * BLOCK..]);
+    let header = file_of(&Task {
+        lines: 513,
+        ..long.clone()
+    });
+    let wrong: [(&[u8], u32, u32); 6] = [
+        (&[], 1, 0),
+        (&file[..BLOCK + 1], 1, 0),
+        (&check, 2, 3),
+        (&header, 3, 0),
+        (&file[..BLOCK], 4, 0),
+        (&count, 5, 96),
+    ];
+    for (bad, number, place) in wrong {
+        f.not_joined("the first is wrong", [bad, &file], 0, (number, place))?;
+        f.not_joined("the second is", [&file, bad], 0, (number, 97 + place))?;
+        f.not_joined("the second is", [&whole, bad], 1, (number, 97 + place))?;
+        for (also, ..) in wrong {
+            f.not_joined("both are wrong", [bad, also], 0, (number, place))?;
+        }
+    }
+    Ok(())
+}
+
+/// A task joined with itself.
+fn twice(task: &Task) -> Task {
+    let mut twice = task.clone();
+    twice.blocks.extend_from_slice(&task.blocks);
+    twice.interrupters.extend_from_slice(&task.interrupters);
+    twice
+}
+
 fn changed_bits(f: &mut Fixed) -> Result<(), String> {
     let whole = file_of(&seven(60));
     let points = plan_block(5, 9, 8, 7, &[2, 3]);
@@ -385,6 +517,9 @@ fn changed_bits(f: &mut Fixed) -> Result<(), String> {
                 f.anything(&Call::NextRead(1, 1))?;
                 f.anything(&Call::Region(1, 3))?;
                 f.anything(&Call::Replay(&[1, 3]))?;
+                let mut files = [&file[..], &whole];
+                files.rotate_right(i % 2);
+                f.join("File Seven twice, a bit changed", files, 0)?;
             }
         }
     }

@@ -9,6 +9,7 @@ mod driver;
 mod files;
 mod fixed;
 mod generator;
+mod joiner;
 mod pages;
 mod reference;
 mod rng;
@@ -19,8 +20,9 @@ mod watch;
 use counts::Counts;
 use driver::{random_side, Driver, Outcome};
 use generator::Request;
+use joiner::Pair;
 use pages::Side;
-use reference::{Call, Model, Reads, Reference, Task, BLOCK, MOST_BLOCKS};
+use reference::{Call, Model, Reads, Reference, Refusal, Task, BLOCK, MOST_BLOCKS};
 use rng::Rng;
 use std::process::ExitCode;
 
@@ -334,10 +336,11 @@ fn run_case(
     }
     match &reference.model {
         Some(model) if rng.percent(40) => {
-            check_alike(driver, counts, rng, &file, &model.task, &good)
+            check_alike(driver, counts, rng, &file, &model.task, &good)?
         }
-        _ => Ok(()),
+        _ => {}
     }
+    check_joined(driver, counts, rng, case)
 }
 
 /// Every call answers alike where the interrupters have other numbers, orders and ids, and touch the same lines.
@@ -465,14 +468,170 @@ fn check_generated(
     }
     let len = request.out_len(rng, driver.most_made());
     watch::file(Some(case), "none", &[]);
-    let refusal = driver.check_generated(rng, &request, len)?;
-    let number = refusal.map_or(0, |r| r.number);
+    let number = match driver.check_generated(rng, &request, len)? {
+        Outcome::Refused(r) => r.number,
+        _ => 0,
+    };
     counts.add(&format!("generate: {number}"));
     counts.add_if(number == 0 && len == MOST_BLOCKS * BLOCK, "97 blocks made");
     counts.add_if(
         number == 10 && request.length() != len as u64,
         "10 before 9",
     );
+    Ok(())
+}
+
+/// Two files joined, now and then unlike, damaged, too large together or with an output of another length.
+fn check_joined(
+    driver: &mut Driver,
+    counts: &mut Counts,
+    rng: &mut Rng,
+    case: u64,
+) -> Result<(), String> {
+    let (pair, kind) = Pair::random(rng);
+    let len = pair.out_len(rng, driver.most_made());
+    watch::files(Some(case), &kind, &[&pair.first, &pair.second]);
+    let outcome = driver.check_joined(rng, &pair, len)?;
+    count_join(counts, &pair, len, &outcome);
+    if let Outcome::Made(file) = outcome {
+        if rng.percent(10) {
+            check_joined_file(driver, counts, rng, case, &file)?;
+            check_contained(driver, counts, rng, case, &pair, &file)?;
+        }
+    }
+    if rng.percent(4) {
+        check_three(driver, counts, rng, case)?;
+    }
+    Ok(())
+}
+
+fn count_join(counts: &mut Counts, pair: &Pair, len: usize, outcome: &Outcome) {
+    let Outcome::Refused(Refusal { number, place }) = *outcome else {
+        let limits = [&pair.first, &pair.second].map(|file| reference::field(file, 8, 4));
+        let [n, m] = pair.totals();
+        counts.add("join: 0");
+        counts.add_if(limits[0] < limits[1], "Q of the first");
+        counts.add_if(limits[1] < limits[0], "Q of the second");
+        counts.add_if(n == 64, "joined N 64");
+        counts.add_if(m == 32, "joined M 32");
+        counts.add_if(n == 64 && m == 32, "97 blocks joined");
+        return;
+    };
+    let second = place >= 97;
+    counts.add(&format!(
+        "join: {number}{}",
+        if second { "+97" } else { "" }
+    ));
+    if number <= 5 {
+        let both = !second && reference::file_refusal(&pair.second).is_some();
+        counts.add_if(both, "both refused");
+        counts.add_if(len != pair.length(), "1 to 5 before 9");
+        return;
+    }
+    let [n, m] = pair.totals();
+    let differences = pair.differences();
+    if let [name] = differences[..] {
+        counts.add(&format!("11 by {name}"));
+        counts.add_if(
+            name == "range's first" && reference::field(&pair.first, 24, 4) == 0,
+            "11 by empty ranges",
+        );
+    }
+    counts.add_if(number == 11 && (n > 64 || m > 32), "11 before 12");
+    counts.add_if(number == 11 && len != pair.length(), "11 before 9");
+    counts.add_if(number == 12 && m <= 32, "12 by N");
+    counts.add_if(number == 12 && n <= 64, "12 by M");
+    counts.add_if(number == 12 && len != pair.length(), "12 before 9");
+}
+
+/// The other calls on a file that was made by joining.
+fn check_joined_file(
+    driver: &mut Driver,
+    counts: &mut Counts,
+    rng: &mut Rng,
+    case: u64,
+    file: &[u8],
+) -> Result<(), String> {
+    watch::file(Some(case), "joined", file);
+    let reference = Reference::new(file);
+    let n = reference.model.as_ref().unwrap().n;
+    driver.lend_file(file, random_side(rng));
+    let mut good = Vec::new();
+    if let Outcome::Planned(points) = driver.check(rng, &reference, &Call::Plan, 512)? {
+        counts.add("joined file planned");
+        good.push(points);
+    }
+    if rng.percent(50) {
+        let (block, _) = files::random_points_block(rng, n, &good);
+        let outcome = driver.check(rng, &reference, &Call::Price(&block), 512)?;
+        counts.add_if(matches!(outcome, Outcome::Answered), "joined file priced");
+    } else {
+        let list = files::random_list(rng, n, &good);
+        let outcome = driver.check(rng, &reference, &Call::Replay(&list), 16)?;
+        counts.add_if(matches!(outcome, Outcome::Answered), "joined file replayed");
+    }
+    Ok(())
+}
+
+/// U of either file is contained in U at the same edge of the joined one.
+fn check_contained(
+    driver: &mut Driver,
+    counts: &mut Counts,
+    rng: &mut Rng,
+    case: u64,
+    pair: &Pair,
+    joined: &[u8],
+) -> Result<(), String> {
+    let blocks = |file: &[u8]| reference::field(file, 2, 2) as usize;
+    let first = blocks(&pair.first);
+    for (file, before) in [(&pair.first, 0), (&pair.second, first)] {
+        watch::files(Some(case), "a part and the joined one", &[file, joined]);
+        let k = rng.between(0, blocks(file));
+        driver.lend_file(file, random_side(rng));
+        let own = driver.useful(rng, k)?;
+        driver.lend_file(joined, random_side(rng));
+        let all = driver.useful(rng, before + k)?;
+        if own.iter().zip(&all).any(|(one, other)| one & !other != 0) {
+            return Err(format!(
+                "expected: U({k}) of a file contained in U({}) of the joined one\ngot:\n{}and\n{}",
+                before + k,
+                reference::hex(&own),
+                reference::hex(&all)
+            ));
+        }
+        counts.add_if(own.iter().any(|&b| b != 0), "U of a part");
+        counts.add_if(own != all, "U grows by joining");
+    }
+    Ok(())
+}
+
+/// Joining three files gives the same bytes whichever two are joined first.
+fn check_three(
+    driver: &mut Driver,
+    counts: &mut Counts,
+    rng: &mut Rng,
+    case: u64,
+) -> Result<(), String> {
+    let [a, b, c] = joiner::random_three(rng);
+    let mut join = |first: &[u8], second: &[u8]| {
+        let pair = Pair {
+            first: first.to_vec(),
+            second: second.to_vec(),
+        };
+        watch::files(Some(case), "one of three", &[first, second]);
+        match driver.check_joined(rng, &pair, pair.length())? {
+            Outcome::Made(file) => Ok(file),
+            _ => Err("the reference doesn't join two of three files".to_string()),
+        }
+    };
+    let (ab, bc) = (join(&a, &b)?, join(&b, &c)?);
+    if join(&ab, &c)? != join(&a, &bc)? {
+        return Err(
+            "expected: the same bytes whichever two of three files are joined first\ngot: others"
+                .to_string(),
+        );
+    }
+    counts.add("three files joined");
     Ok(())
 }
 

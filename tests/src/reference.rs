@@ -103,7 +103,7 @@ pub struct Task {
 
 impl Task {
     /// The content of an accepted file.
-    fn read(file: &[u8]) -> Task {
+    pub fn read(file: &[u8]) -> Task {
         let blocks: Vec<&[u8]> = file.chunks(BLOCK).collect();
         let n = field(blocks[0], 2, 2) as usize;
         let reads = |block: &&[u8]| {

@@ -3,11 +3,12 @@
 //! without any. `opponent bugs` tries them all and says which are noticed.
 
 use crate::generator::Request;
+use crate::joiner::Pair;
 use crate::reference::{Call, Reference};
 use std::process::{Command, ExitCode};
 use std::sync::{Mutex, OnceLock};
 
-pub const BUGS: [&str; 149] = [
+pub const BUGS: [&str; 187] = [
     "line numbers in eight bits",
     "line numbers in nine bits with S 512 as 511",
     "number 0 as empty",
@@ -157,6 +158,44 @@ pub const BUGS: [&str; 149] = [
     "numbers below 4095",
     "9 before 10",
     "no id made",
+    "the larger Q",
+    "the first's Q",
+    "the second's Q",
+    "Q compared with a sign",
+    "the second's id",
+    "no range joined",
+    "the second's blocks not renumbered",
+    "the first's interrupters not renumbered",
+    "checks of joined blocks kept",
+    "the second file whole after the first",
+    "the second's interrupters first",
+    "the second's basic blocks first",
+    "97 not added",
+    "97 not added to 1, 3 and 4",
+    "97 added for the first",
+    "the second file looked at first",
+    "9 first of a join",
+    "9 before 11",
+    "9 before 12",
+    "12 before 11",
+    "a longer output taken",
+    "S not compared",
+    "S compared in eight bits",
+    "R not compared",
+    "range not compared",
+    "range compared without its first",
+    "range compared without its count",
+    "empty ranges alike",
+    "65 basic blocks joined",
+    "33 interrupters joined",
+    "N 64 not joined",
+    "M 32 not joined",
+    "written on refusal 11",
+    "written on refusal 12",
+    "written on refusal 9",
+    "the second file written",
+    "the second file read beyond its end",
+    "a byte written after the joined file",
 ];
 
 fn bug() -> &'static str {
@@ -315,6 +354,30 @@ pub unsafe fn probe_generate(
         return refusal.code();
     }
     slice_mut(out, out_len).copy_from_slice(&request.file());
+    0
+}
+
+pub unsafe fn probe_join(
+    first: *const u8,
+    first_len: usize,
+    second: *const u8,
+    second_len: usize,
+    out: *mut u8,
+    out_len: usize,
+) -> u32 {
+    let (first, second) = (slice(first, first_len), slice(second, second_len));
+    let out = slice_mut(out, out_len);
+    if !bug().is_empty() {
+        return join(first, second, out).err().unwrap_or(0);
+    }
+    let pair = Pair {
+        first: first.to_vec(),
+        second: second.to_vec(),
+    };
+    if let Some(refusal) = pair.refused(out_len) {
+        return refusal.code();
+    }
+    out.copy_from_slice(&pair.file());
     0
 }
 
@@ -1190,6 +1253,138 @@ fn broken_answer(file: &[u8], call: &Call, out: &mut [u8]) -> Result<(), u32> {
             Ok(())
         }
     }
+}
+
+/// The blocks copied as they are, then numbered and sealed.
+fn join(first: &[u8], second: &[u8], out: &mut [u8]) -> Result<(), u32> {
+    match bug() {
+        "the second file written" if !second.is_empty() => unsafe {
+            let at = second.as_ptr() as *mut u8;
+            at.write_volatile(at.read_volatile())
+        },
+        "the second file read beyond its end" => unsafe {
+            second.as_ptr().add(second.len()).read_volatile();
+        },
+        "a byte written after the joined file" => unsafe {
+            out.as_mut_ptr().add(out.len()).write_volatile(1)
+        },
+        _ => {}
+    }
+    if has("9 first of a join") && out.len() + 512 != first.len() + second.len() {
+        return Err(code(9, 0));
+    }
+    let in_second = |code: u32| match bug() {
+        "97 not added" => code,
+        "97 not added to 1, 3 and 4" if matches!(code >> 16, 1 | 3 | 4) => code,
+        _ => code + 97,
+    };
+    if has("the second file looked at first") {
+        read(second).map_err(in_second)?;
+    }
+    let one = read(first).map_err(|code| match bug() {
+        "97 added for the first" => code + 97,
+        _ => code,
+    })?;
+    let other = read(second).map_err(in_second)?;
+    let (n, m) = (one.n + other.n, one.strikes.len() + other.strikes.len());
+    let most_basic = match bug() {
+        "65 basic blocks joined" => 65,
+        "N 64 not joined" => 63,
+        _ => 64,
+    };
+    let most_strikes = match bug() {
+        "33 interrupters joined" => 33,
+        "M 32 not joined" => 31,
+        _ => 32,
+    };
+    let mut order = [
+        (11, unlike(first, second)),
+        (12, n > most_basic || m > most_strikes),
+        (9, out.len() != 512 * (1 + n + m)),
+    ];
+    match bug() {
+        "12 before 11" => order.swap(0, 1),
+        "9 before 12" => order.swap(1, 2),
+        "9 before 11" => order.rotate_right(1),
+        "a longer output taken" => order[2].1 = out.len() < 512 * (1 + n + m),
+        _ => {}
+    }
+    if let Some((number, _)) = order.iter().find(|(_, holds)| *holds) {
+        let written = match number {
+            9 => has("written on refusal 9"),
+            11 => has("written on refusal 11"),
+            _ => has("written on refusal 12"),
+        };
+        if written && out.len() >= 512 {
+            out[..512].copy_from_slice(&first[..512]);
+        }
+        return Err(code(*number, 0));
+    }
+    let ([a, c], [b, d]) = (groups(first, &one), groups(second, &other));
+    let blocks = match bug() {
+        "the second file whole after the first" => [a, c, b, d],
+        "the second's interrupters first" => [a, b, d, c],
+        "the second's basic blocks first" => [b, a, c, d],
+        _ => [a, b, c, d],
+    };
+    let mut file = [&first[..512], &blocks.concat()].concat();
+    let q = match bug() {
+        "the larger Q" => one.q.max(other.q),
+        "the first's Q" => one.q,
+        "the second's Q" => other.q,
+        "Q compared with a sign" if (one.q as i32) < other.q as i32 => one.q,
+        "Q compared with a sign" => other.q,
+        _ => one.q.min(other.q),
+    };
+    file[2..4].copy_from_slice(&(n as u16).to_le_bytes());
+    file[4..6].copy_from_slice(&(m as u16).to_le_bytes());
+    file[8..12].copy_from_slice(&(q as u32).to_le_bytes());
+    match bug() {
+        "the second's id" => file[16..20].copy_from_slice(&other.id.to_le_bytes()),
+        "no range joined" => file[20..28].fill(0),
+        _ => {}
+    }
+    for (i, block) in file.chunks_mut(512).enumerate() {
+        let of_second = one.n < i && i <= n || n + one.strikes.len() < i;
+        let kept = match bug() {
+            "the second's blocks not renumbered" => of_second,
+            "the first's interrupters not renumbered" => n < i && !of_second,
+            _ => false,
+        };
+        if !kept {
+            block[504..508].copy_from_slice(&(i as u32).to_le_bytes());
+        }
+        if i == 0 || !has("checks of joined blocks kept") {
+            let sum = check(block);
+            block[508..512].copy_from_slice(&sum.to_le_bytes());
+        }
+    }
+    out[..file.len()].copy_from_slice(&file);
+    Ok(())
+}
+
+/// Whether S, R or the ranges differ.
+fn unlike(first: &[u8], second: &[u8]) -> bool {
+    let differ = |from: usize, to: usize| first[from..to] != second[from..to];
+    let lines = match bug() {
+        "S not compared" => false,
+        "S compared in eight bits" => differ(6, 7),
+        _ => differ(6, 8),
+    };
+    let ranges = match bug() {
+        "range not compared" => false,
+        "range compared without its first" => differ(24, 28),
+        "range compared without its count" => differ(20, 24),
+        "empty ranges alike" => differ(24, 28) || differ(20, 24) && get32(first, 24) > 0,
+        _ => differ(20, 28),
+    };
+    lines || ranges || differ(12, 16) && !has("R not compared")
+}
+
+/// The basic blocks and the interrupters of a file.
+fn groups<'a>(file: &'a [u8], t: &Task) -> [&'a [u8]; 2] {
+    let (basic, strikes) = file[512..].split_at(512 * t.n);
+    [basic, &strikes[..512 * t.strikes.len()]]
 }
 
 /// Block by block, counting on the way.

@@ -7,7 +7,7 @@ pub struct Now {
     seed: u64,
     case: Option<u64>,
     kind: String,
-    file: Vec<u8>,
+    files: Vec<Vec<u8>>,
     call: String,
     points: Vec<u8>,
 }
@@ -16,7 +16,7 @@ static NOW: Mutex<Now> = Mutex::new(Now {
     seed: 0,
     case: None,
     kind: String::new(),
-    file: Vec::new(),
+    files: Vec::new(),
     call: String::new(),
     points: Vec::new(),
 });
@@ -60,10 +60,14 @@ pub fn start(seed: u64) {
 }
 
 pub fn file(case: Option<u64>, kind: &str, bytes: &[u8]) {
+    files(case, kind, &[bytes]);
+}
+
+pub fn files(case: Option<u64>, kind: &str, files: &[&[u8]]) {
     let mut now = NOW.lock().unwrap();
     now.case = case;
     now.kind = kind.to_string();
-    now.file = bytes.to_vec();
+    now.files = files.iter().map(|bytes| bytes.to_vec()).collect();
 }
 
 pub fn call(text: String, points: &[u8]) {
@@ -94,8 +98,10 @@ pub fn failed(text: &str) {
     println!("file: {}", now.kind);
     println!("call: {}", now.call);
     println!("{text}");
-    println!("file, {} bytes; {}", now.file.len(), fields(&now.file));
-    print!("{}", hex(&now.file));
+    for file in &now.files {
+        println!("file, {} bytes; {}", file.len(), fields(file));
+        print!("{}", hex(file));
+    }
     if !now.points.is_empty() {
         println!("points, {} bytes", now.points.len());
         print!("{}", hex(&now.points));

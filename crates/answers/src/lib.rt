@@ -27,6 +27,8 @@ pub fn refusal_number(refusal: Refusal) -> u32
         Refusal::AboveLimit(_) => 8,
         Refusal::Output => 9,
         Refusal::OutOfRange => 10,
+        Refusal::Mismatch => 11,
+        Refusal::TooManyBlocks => 12,
     }
 }
 
@@ -45,6 +47,8 @@ pub fn refusal_place(refusal: Refusal) -> usize
         Refusal::AboveLimit(region) => region,
         Refusal::Output => 0,
         Refusal::OutOfRange => 0,
+        Refusal::Mismatch => 0,
+        Refusal::TooManyBlocks => 0,
     }
 }
 

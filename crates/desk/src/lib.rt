@@ -204,20 +204,20 @@ pub fn print_lines(set: LineSet) {
     }
 }
 
-fn write_refusal(fd: i32, refusal: Refusal) {
+fn write_refusal(fd: i32, refusal: Refusal, place: usize) {
     write_field(fd, b"refused ", answers::refusal_number(refusal) as u64);
-    write_field(fd, b" at ", answers::refusal_place(refusal) as u64);
+    write_field(fd, b" at ", place as u64);
     io::write_all(fd, b"\n");
 }
 
 // The line of a refusal.
 pub fn print_refusal(refusal: Refusal) {
-    write_refusal(STDOUT_FILENO, refusal);
+    write_refusal(STDOUT_FILENO, refusal, answers::refusal_place(refusal));
 }
 
-// The line of a refusal on standard error, from a program whose standard output is a file.
-pub fn report_refusal(refusal: Refusal) {
-    write_refusal(STDERR_FILENO, refusal);
+// The line of a refusal on standard error, from a program whose standard output is a file; of two inputs the place says whose it is.
+pub fn report_refusal(refusal: Refusal, place: usize) {
+    write_refusal(STDERR_FILENO, refusal, place);
 }
 
 // The line of a verdict that has no value beside it.

@@ -13,7 +13,7 @@ use Rattle.model.specs.Answers.{returned}
 use Rattle.model.specs.Planning.{planFor}
 use Rattle.model.specs.declared.Input.the-variants.{First}
 use Rattle.model.specs.declared.Refusal.{Refusal}
-use Rattle.model.specs.declared.Refusal.the-variants.{Length, Checksum, WrongHeader, BlockCount, WrongBlock, NoPlacement, Argument, AboveLimit, Output, OutOfRange}
+use Rattle.model.specs.declared.Refusal.the-variants.{Length, Checksum, WrongHeader, BlockCount, WrongBlock, NoPlacement, Argument, AboveLimit, Output, OutOfRange, Mismatch, TooManyBlocks}
 use Rattle.model.specs.declared.Verdict.{Verdict}
 use Rattle.model.specs.declared.Verdict.the-variants.{Accepted, Refused}
 use Rattle.model.proofs.Order.{one-first}
@@ -63,6 +63,8 @@ refused-returns (Argument i) e = omega arith
 refused-returns (AboveLimit i) e = omega arith
 refused-returns Output e = omega arith
 refused-returns OutOfRange e = omega arith
+refused-returns Mismatch e = omega arith
+refused-returns TooManyBlocks e = omega arith
 
 is-stored : (file block left : List ℕ) → PlanCall file block 0 left → StoredBest (taskOf file) left
 is-stored file block left a =

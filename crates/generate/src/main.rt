@@ -40,7 +40,7 @@ fn write_file(numbers: [u32; 6], file: &mut [u8]) {
     );
     match verdict {
         Verdict::Accepted => desk::print(file),
-        Verdict::Refused(refusal) => desk::report_refusal(refusal),
+        Verdict::Refused(refusal) => desk::report_refusal(refusal, answers::refusal_place(refusal)),
     }
 }
 

@@ -15,11 +15,11 @@ use Rattle.model.specs.declared.Input.the-variants.{First, Second}
 use Rattle.model.specs.declared.Place.{Place}
 use Rattle.model.specs.declared.Place.the-variants.{Nowhere, At}
 use Rattle.model.specs.declared.Refusal.{Refusal}
-use Rattle.model.specs.declared.Refusal.the-variants.{Length, Checksum, WrongHeader, BlockCount, WrongBlock, NoPlacement, Argument, AboveLimit, Output, OutOfRange}
+use Rattle.model.specs.declared.Refusal.the-variants.{Length, Checksum, WrongHeader, BlockCount, WrongBlock, NoPlacement, Argument, AboveLimit, Output, OutOfRange, Mismatch, TooManyBlocks}
 use Rattle.model.specs.declared.Verdict.{Verdict}
 use Rattle.model.specs.declared.Verdict.the-variants.{Accepted, Refused}
 
-pub number-most : (r : Refusal) → number r ≤ 10
+pub number-most : (r : Refusal) → number r ≤ 12
 number-most Length = omega arith
 number-most (Checksum k) = omega arith
 number-most WrongHeader = omega arith
@@ -30,6 +30,8 @@ number-most (Argument i) = omega arith
 number-most (AboveLimit i) = omega arith
 number-most Output = omega arith
 number-most OutOfRange = omega arith
+number-most Mismatch = omega arith
+number-most TooManyBlocks = omega arith
 
 -- an input's place is at most 97 more than the refusal's own
 pub of-most : (i : Input) (r : Refusal) → placeOf i r ≤ place r + mostBlocks
@@ -44,6 +46,11 @@ pub at-most : (p : Place) (r : ℕ → Refusal) (v : Verdict) (n : ℕ) → ((k 
     → verdictPlace (refusedAt p r v) ≤ n
 at-most Nowhere r v n g h = h
 at-most (At k) r v n g h = g k refl
+
+-- one refusal, if a test fails
+pub test-most : (right : Bool) (x : Refusal) (n : ℕ) → place x ≤ n → verdictPlace (cond right Accepted (Refused x)) ≤ n
+test-most true x n h = omega arith
+test-most false x n h = h
 
 -- a place that is found is one of those looked at
 lowest-within : (f : ℕ → ℕ → Bool) (i k : ℕ) (rs : List Region) → lowest f i rs ≡ At k → k < i + length rs

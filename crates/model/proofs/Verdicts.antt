@@ -19,3 +19,9 @@ is-accepted (Refused x) e = absurd (false≢true e)
 pub both-accepted : (u v : Verdict) → andThen u v ≡ Accepted → (u ≡ Accepted) × (v ≡ Accepted)
 both-accepted Accepted v e = (refl, e)
 both-accepted (Refused x) v e = absurd (never-both (sym e))
+
+-- a refusal of the first two of three is the answer
+pub before-refused : (u v w : Verdict) (x : Refusal) → andThen u v ≡ Refused x → andThen u (andThen v w) ≡ Refused x
+before-refused Accepted Accepted w x e = absurd (never-both e)
+before-refused Accepted (Refused y) w x e = e
+before-refused (Refused y) v w x e = e

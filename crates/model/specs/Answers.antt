@@ -10,7 +10,7 @@ use Rattle.model.specs.declared.Input.the-variants.{First, Second}
 use Rattle.model.specs.declared.Place.{Place}
 use Rattle.model.specs.declared.Place.the-variants.{Nowhere, At}
 use Rattle.model.specs.declared.Refusal.{Refusal}
-use Rattle.model.specs.declared.Refusal.the-variants.{Length, Checksum, WrongHeader, BlockCount, WrongBlock, NoPlacement, Argument, AboveLimit, Output, OutOfRange}
+use Rattle.model.specs.declared.Refusal.the-variants.{Length, Checksum, WrongHeader, BlockCount, WrongBlock, NoPlacement, Argument, AboveLimit, Output, OutOfRange, Mismatch, TooManyBlocks}
 use Rattle.model.specs.declared.Verdict.{Verdict}
 use Rattle.model.specs.declared.Verdict.the-variants.{Accepted, Refused}
 
@@ -26,6 +26,8 @@ number (Argument i) = 7
 number (AboveLimit i) = 8
 number Output = 9
 number OutOfRange = 10
+number Mismatch = 11
+number TooManyBlocks = 12
 
 -- the place: the lowest such block, index or region, and 0 where the table says so
 abbrev pub place : Refusal → ℕ
@@ -39,6 +41,8 @@ place (Argument i) = i
 place (AboveLimit i) = i
 place Output = 0
 place OutOfRange = 0
+place Mismatch = 0
+place TooManyBlocks = 0
 
 -- the blocks of the largest file
 abbrev pub mostBlocks : ℕ

@@ -30,6 +30,8 @@ pub enum Refusal {
     AboveLimit(usize),
     Output,
     OutOfRange,
+    Mismatch,
+    TooManyBlocks,
 }
 
 // The lowest place at which something does not hold.

@@ -11,13 +11,12 @@ use lib.Seq.{drop-length, take-all}
 use borrow.Author.Tests.{ltb-true}
 use Rattle.model.specs.Task.{blockCount}
 use Rattle.model.specs.Lists.{steps, lowest, rightPoint}
-use Rattle.model.specs.Answers.{place, verdictPlace, andThen, mostBlocks}
+use Rattle.model.specs.Answers.{verdictPlace, andThen, mostBlocks}
 use Rattle.model.specs.declared.Place.the-variants.{At}
-use Rattle.model.specs.declared.Refusal.{Refusal}
 use Rattle.model.specs.declared.Refusal.the-variants.{Argument, Output, OutOfRange}
 use Rattle.model.specs.declared.Verdict.the-variants.{Accepted, Refused}
 use Rattle.model.proofs.Lists.{and-split}
-use Rattle.model.proofs.Places.{then-most, at-most}
+use Rattle.model.proofs.Places.{then-most, at-most, test-most}
 use Rattle.taskfile.specs.File.{verdict, taskOf, countsInRange}
 use Rattle.taskfile.proofs.Accepted.{few-blocks}
 use Rattle.taskfile.proofs.Places.{verdict-most}
@@ -28,15 +27,10 @@ use Rattle.replays.specs.Calls.{replayVerdict}
 use Rattle.writer.specs.Writing.{outputRow}
 use Rattle.testload.specs.Calls.{countsRow, generateVerdict}
 
--- one refusal, if a test fails
-test-most : (right : Bool) (x : Refusal) → place x ≤ mostBlocks → verdictPlace (cond right Accepted (Refused x)) ≤ mostBlocks
-test-most true x h = omega arith
-test-most false x h = h
-
 -- the file's refusal, or 7 at 0
 file-most : (file : List ℕ) (right : Bool) → verdictPlace (andThen (verdict file) (cond right Accepted (Refused (Argument 0)))) ≤ mostBlocks
 file-most file right =
-    then-most (verdict file) (cond right Accepted (Refused (Argument 0))) mostBlocks (verdict-most file) (λ a. test-most right (Argument 0) (omega arith))
+    then-most (verdict file) (cond right Accepted (Refused (Argument 0))) mostBlocks (verdict-most file) (λ a. test-most right (Argument 0) mostBlocks (omega arith))
 
 pub edge-most : (file : List ℕ) (k : ℕ) → verdictPlace (edgeVerdict file k) ≤ mostBlocks
 unfolding edgeVerdict
@@ -71,8 +65,8 @@ pub generate-most : (n m s : ℕ) (out : List ℕ) → verdictPlace (generateVer
 unfolding generateVerdict countsRow outputRow
 generate-most n m s out =
     then-most (countsRow n m s) (outputRow n m (length out)) mostBlocks
-    (test-most (countsInRange n m s) OutOfRange (omega arith))
-    (λ a. test-most (eqb (length out) (512 * (1 + n + m))) Output (omega arith))
+    (test-most (countsInRange n m s) OutOfRange mostBlocks (omega arith))
+    (λ a. test-most (eqb (length out) (512 * (1 + n + m))) Output mostBlocks (omega arith))
 
 -- the words, and the length behind them
 pub region-stored : (ws bs new : List ℕ) (v : ℕ) → length bs ≡ 72 → take 64 bs ≡ les 8 ws → new ≡ take 64 bs ++ le 8 v ++ drop 72 bs

@@ -1,5 +1,5 @@
-// For tests: the useful lines of an edge, the next read of a line, the loaded lines and the length of a region, the misses of a replay, and files
-// from a seed, through the public calls.
+// For tests: the useful lines of an edge, the next read of a line, the loaded lines and the length of a region, the misses of a replay, files from a
+// seed and joined files, through the public calls.
 // A set is eight words of eight bytes, their lowest byte first, and other numbers have eight bytes too.
 ghost use mathlib.Core.List.{[], _∷_, _++_};
 ghost use mathlib.Core.Path.{_≡_};
@@ -9,6 +9,7 @@ ghost use Rattle.model.specs.Answers.{returned, onAccepted};
 ghost use Rattle.model.specs.declared.Input.the-variants.{First};
 ghost use Rattle.block.specs.Bytes.{les};
 ghost use Rattle.testload.specs.Calls.{generateVerdict, generated};
+ghost use Rattle.joins.specs.Calls.{joinVerdict, joinInput, joinLeft};
 ghost use Rattle.probe.specs.Calls.{usefulReturned, usefulLeft, nextReturned, nextLeft, nextNumbers, regionReturned, regionLeft, replayReturned, replayLeft};
 use lineset::LineSet;
 use model::Input;
@@ -96,6 +97,18 @@ pub extern "C" fn probe_generate(
 {
     let verdict = testload::generate(seed, blocks, preempters, lines, limit, reload, out);
     answers::returned(Input::First, verdict)
+}
+
+// Two files joined.
+#[no_mangle]
+pub extern "C" fn probe_join(first: &[u8], second: &[u8], out: &mut [u8]) -> u32
+    ensures { λ r. ⌜ r ≡ returned (joinInput (now (first .entry)) (now (second .entry))) (joinVerdict (now (first .entry)) (now (second .entry)) (now (out .entry))) ⌝ }
+    ensures { λ _. ⌜ now (out .exit) ≡ joinLeft (now (first .entry)) (now (second .entry)) (now (out .entry)) ⌝ }
+{
+    let joined = joins::join(first, second, out);
+    let verdict = joined.verdict;
+    let input = joined.input;
+    answers::returned(input, verdict)
 }
 
 // Leaves accepted lines in the bytes.

@@ -8,8 +8,8 @@ use native.Mathlib.Nat.{zero-add, add-zero, add-suc, suc-add}
 use native.Mathlib.Numerals.{one-add}
 use native.Mathlib.Decide.{decLe}
 use native.Mathlib.Omega.{arith}
-use lib.ListN.{length, getD, length-append, length-map, List·getD-append, List·getD-map}
-use lib.Seq.{take-at, drop-append-add, getD-append-add, ext-getD}
+use lib.ListN.{length, getD, take, drop, length-append, length-map, List·getD-append, List·getD-map}
+use lib.Seq.{take-at, drop-at, drop-drop, drop-append-add, getD-append-add, ext-getD}
 use borrow.Author.Tests.{le-leb, lt-leb, lt-ltb, eq-eqb}
 use Rattle.model.specs.Task.{Block, Preempter, Task, blockCount}
 use Rattle.model.specs.declared.Verdict.the-variants.{Accepted}
@@ -22,9 +22,10 @@ use Rattle.block.proofs.Blocks.{length-numbered, length-sealed, afterNamed, sea
 use Rattle.taskfile.specs.File.{blockIn, blocksIn, header, readsIn, basicOf, preempterOf, collect, taskOf, headerNumbers, entryBytes, basicBytes, preempterBytes, namedBytes, wholeBlocks, fileOf, lengthRight, sumRight, headerRight, entryRight, blockRight, lengthRow, checksumRow, headerRow, countRow, blockRow, verdict, EntryWithin, Within}
 use Rattle.taskfile.specs.Statements.{FileThenTask}
 use Rattle.taskfile.proofs.Accepted.{in-range, length-collect, getD-collect}
+use Rattle.taskfile.proofs.Files.{whole-append}
 
 -- named bytes that a block has room for
-abbrev Room : List ℕ → Type 0
+abbrev pub Room : List ℕ → Type 0
 Room named = length named ≤ 504
 
 length-whole : (a : ℕ) (ns : List (List ℕ)) → Each Room ns → length (wholeBlocks a ns) ≡ 512 * length ns
@@ -102,18 +103,45 @@ abbrev noPreempter : Preempter
 noPreempter = record { id = 0; reads = [] }
 
 module _ (t : Task) (w : Within t) where
+  pub basics-roomy : Each Room (map basicBytes (t .blocks))
+  unfolding basicBytes
+  basics-roomy =
+      each-map (λ b. EntryWithin (b .time) (b .reads)) Room basicBytes (λ b. room 0 2 0 (b .time) (b .reads) (omega arith) (omega arith)) (t .blocks) (w .blocks)
+
+  pub preempters-roomy : Each Room (map preempterBytes (t .preempters))
+  unfolding preempterBytes
+  preempters-roomy =
+      each-map (λ p. EntryWithin (p .id) (p .reads)) Room preempterBytes (λ p. room 0 3 0 (p .id) (p .reads) (omega arith) (omega arith)) (t .preempters)
+      (w .preempters)
+
   roomy : Each Room (namedBytes t)
-  unfolding Each namedBytes headerNumbers packed le basicBytes preempterBytes
-  roomy = (
-    omega arith,
-    each-append Room (map basicBytes (t .blocks)) (map preempterBytes (t .preempters))
-        (each-map (λ b. EntryWithin (b .time) (b .reads)) Room basicBytes (λ b. room 0 2 0 (b .time) (b .reads) (omega arith) (omega arith)) (t .blocks) (w .blocks))
-        (each-map (λ p. EntryWithin (p .id) (p .reads)) Room preempterBytes (λ p. room 0 3 0 (p .id) (p .reads) (omega arith) (omega arith)) (t .preempters) (w .preempters)),
-  )
+  unfolding Each namedBytes headerNumbers packed le
+  roomy = (omega arith, each-append Room (map basicBytes (t .blocks)) (map preempterBytes (t .preempters)) basics-roomy preempters-roomy)
 
   count-names : length (namedBytes t) ≡ 1 + blockCount t + length (t .preempters)
   unfolding namedBytes
   count-names = simp (length-append, length-map) (omega arith)
+
+  -- the header, the basic blocks and the preempter blocks
+  parts : fileOf t ≡ sealed (numbered 0 (packed (headerNumbers t))) ++
+      (wholeBlocks 1 (map basicBytes (t .blocks)) ++ wholeBlocks (1 + blockCount t) (map preempterBytes (t .preempters)))
+  unfolding fileOf namedBytes wholeBlocks
+  parts = rw (whole-append 1 (map basicBytes (t .blocks)) (map preempterBytes (t .preempters)), length-map)
+
+  behind-header : drop 512 (fileOf t) ≡ wholeBlocks 1 (map basicBytes (t .blocks)) ++ wholeBlocks (1 + blockCount t) (map preempterBytes (t .preempters))
+  unfolding Each namedBytes
+  behind-header = rw parts (drop-at (sealed (numbered 0 (packed (headerNumbers t)))) _ 512 (length-sealed _ (length-numbered 0 _ (roomy .0))))
+
+  basics-long : length (wholeBlocks 1 (map basicBytes (t .blocks))) ≡ 512 * blockCount t
+  basics-long = length-whole 1 (map basicBytes (t .blocks)) basics-roomy ∙ rw length-map
+
+  pub basic-part : take (512 * blockCount t) (drop 512 (fileOf t)) ≡ wholeBlocks 1 (map basicBytes (t .blocks))
+  basic-part = rw behind-header (take-at _ _ (512 * blockCount t) basics-long)
+
+  pub preempter-part : drop (512 + 512 * blockCount t) (fileOf t) ≡ wholeBlocks (1 + blockCount t) (map preempterBytes (t .preempters))
+  preempter-part =
+      rw (← drop-drop (512 * blockCount t) 512 (fileOf t), behind-header)
+      (drop-at (wholeBlocks 1 (map basicBytes (t .blocks))) _ (512 * blockCount t) basics-long)
 
   header-written : blockIn (fileOf t) 0 ≡ sealed (numbered 0 (packed (headerNumbers t)))
   unfolding fileOf namedBytes
@@ -175,20 +203,20 @@ module _ (t : Task) (w : Within t) where
   unfolding taskOf header headerNumbers numberAt
   task-of-file = rw (numbers-written, basics-read, preempters-read)
 
-  long : length (fileOf t) ≡ 512 * (1 + blockCount t + length (t .preempters))
+  pub length-file : length (fileOf t) ≡ 512 * (1 + blockCount t + length (t .preempters))
   unfolding fileOf namedBytes
-  long = length-whole 0 (namedBytes t) roomy ∙ ap (λ (n : ℕ). 512 * n) count-names
+  length-file = length-whole 0 (namedBytes t) roomy ∙ ap (λ (n : ℕ). 512 * n) count-names
 
   count-right : blocksIn (fileOf t) ≡ 1 + blockCount t + length (t .preempters)
   unfolding blocksIn
-  count-right = omega (arith, long)
+  count-right = omega (arith, length-file)
 
   length-right : lengthRight (length (fileOf t)) ≡ true
   unfolding lengthRight
   length-right =
       let range = in-range t (w .in-range) in
       let n : ℕ = 512 * (1 + blockCount t + length (t .preempters)) in
-      rw (long, lt-ltb 0 n (omega arith), eq-eqb (n % 512) 0 (omega arith), le-leb n 49664 (omega arith))
+      rw (length-file, lt-ltb 0 n (omega arith), eq-eqb (n % 512) 0 (omega arith), le-leb n 49664 (omega arith))
 
   checksum-right : (k : ℕ) → 0 ≤ k → k < 0 + blocksIn (fileOf t) → sumRight (fileOf t) k ≡ true
   unfolding fileOf namedBytes

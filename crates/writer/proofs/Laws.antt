@@ -30,6 +30,15 @@ unfolding Written
 written-append k xs ys front rest l a b =
     rw (length-append, sealed-add, sealed-front (length xs) front rest l, drop-at front rest (512 * length xs) l, a, b, whole-append)
 
+-- the same, where the second part is put behind the first in a buffer
+pub written-two : (k s w : ℕ) (xs ys : List (List ℕ)) (out front rest : List ℕ) → length front ≡ s → s ≡ 512 * length xs → length rest ≡ 512 * length ys
+    → Written k xs front → Written (k + length xs) ys rest → Written k (xs ++ ys) (putMid s w (front ++ drop s out) rest)
+unfolding Written
+written-two k s w xs ys out front rest lf es lr a b =
+    let after : List ℕ = drop w (drop s (front ++ drop s out)) in
+    let later : Written (k + length xs) ys (rest ++ after) = sealed-front (length ys) rest after lr ∙ b in
+    rw (take-at front (drop s out) s lf) (written-append k xs ys front (rest ++ after) (lf ∙ es) a later)
+
 -- one block more, in the part of w bytes from byte s on
 pub written-more : (k s w : ℕ) (xs : List (List ℕ)) (named bs part : List ℕ) → s ≡ 512 * length xs → s ≤ length bs → 508 ≤ length part → Written k xs bs
     → take 508 part ≡ numbered (k + length xs) named → Written k (xs ++ (named ∷ [])) (putMid s w bs part)

@@ -1,11 +1,11 @@
 -- What a writer of task files has stored so far (document 01, "Blocks of 512 bytes").
 -- Assumes nothing.
-use Prim.Native.Nat.{ℕ, _+_, _*_}
+use Prim.Native.Nat.{ℕ, zero, suc, _+_, _*_}
 use mathlib.Core.Path.{_≡_}
 use mathlib.Core.Bool.{cond}
-use mathlib.Core.List.{List}
+use mathlib.Core.List.{List, [], _∷_}
 use lib.Dec.{eqb}
-use lib.ListN.{length, take}
+use lib.ListN.{length, take, drop}
 use Rattle.model.specs.Task.{Task, blockCount}
 use Rattle.model.specs.declared.Refusal.the-variants.{Output}
 use Rattle.model.specs.declared.Verdict.{Verdict}
@@ -44,3 +44,8 @@ storedReads bs n = fields bs 8 4 n
 -- bytes are blocks numbered from k, with these named bytes, but for the checksums
 unfoldable pub Written : ℕ → List (List ℕ) → List ℕ → Type 0
 Written k names bs = sealedBlocks (length names) bs ≡ wholeBlocks k names
+
+-- bytes 0 to 503 of each of the first n blocks: their named bytes, and zeros
+unfoldable pub bodies : ℕ → List ℕ → List (List ℕ)
+bodies zero bs = []
+bodies (suc n) bs = take 504 bs ∷ bodies n (drop 512 bs)

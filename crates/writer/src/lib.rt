@@ -2,11 +2,11 @@
 // the checksums once all blocks stand, so that four of them are computed side by side.
 ghost use mathlib.Core.Path.{_≡_};
 ghost use mathlib.Core.List.{[], _∷_, _++_};
-ghost use Prim.Native.Nat.{_+_, _<_, _≤_};
+ghost use Prim.Native.Nat.{_+_, _*_, _<_, _≤_};
 ghost use lib.ListN.{length, take};
 ghost use Rattle.block.specs.Blocks.{numbered};
 ghost use Rattle.taskfile.specs.File.{entryBytes, basicBytes, preempterBytes};
-ghost use Rattle.writer.specs.Writing.{outputRow, HeaderStored, storedReads};
+ghost use Rattle.writer.specs.Writing.{outputRow, HeaderStored, storedReads, Written, bodies};
 use model::Refusal;
 use model::Verdict;
 
@@ -91,4 +91,38 @@ pub fn close_preempter(block: &mut [u8], number: u32, id: u32, count: usize)
     ensures { λ _. ⌜ take 508 (now (block .exit)) ≡ numbered number (preempterBytes (record { id = id; reads = storedReads (now (block .entry)) count })) ⌝ }
 {
     close_entry(block, number, 3, 0, id, count);
+}
+
+// Stores a copy of a block with another number, all but its checksum.
+fn copy_block(block: &mut [u8], source: &[u8], number: u32)
+    requires { ⌜ (length (now block) ≡ 512) × (length (now source) ≡ 512) ⌝ }
+    ensures { λ _. ⌜ take 508 (now (block .exit)) ≡ numbered number (take 504 (now (source .entry))) ⌝ }
+{
+    bytes::copy(&source[..504], block);
+    block::close_body(block, 504, number);
+}
+
+// Stores copies of blocks, numbered from first, all but their checksums.
+fn copy_blocks(out: &mut [u8], source: &[u8], first: u32, count: usize)
+    requires { ⌜ (length (now out) ≡ 512 * count) × (length (now source) ≡ 512 * count) × (first ≤ 129) × (count ≤ 64) ⌝ }
+    ensures { λ _. ⌜ Written first (bodies count (now (source .entry))) (now (out .exit)) ⌝ }
+{
+    let mut i = 0;
+    while i < count {
+        let start = i * 512;
+        let end = start + 512;
+        copy_block(&mut out[start..end], &source[start..end], first + i as u32);
+        i += 1;
+    }
+}
+
+// Stores copies of the blocks of one source and then of another, numbered from first, all but their checksums.
+pub fn copy_both(out: &mut [u8], source: &[u8], other: &[u8], first: u32, count: usize, more: usize)
+    requires { ⌜ (length (now source) ≡ 512 * count) × (length (now other) ≡ 512 * more) × (length (now out) ≡ 512 * (count + more)) ⌝ }
+    requires { ⌜ (first ≤ 65) × (count ≤ 64) × (more ≤ 64) ⌝ }
+    ensures { λ _. ⌜ Written first (bodies count (now (source .entry)) ++ bodies more (now (other .entry))) (now (out .exit)) ⌝ }
+{
+    let middle = 512 * count;
+    copy_blocks(&mut out[..middle], source, first, count);
+    copy_blocks(&mut out[middle..], other, first + count as u32, more);
 }

@@ -1,4 +1,4 @@
--- `answers::returned` meets its contract: numbers are at most 10 and places at most 194, so the sum fits a u32.
+-- `answers::returned` meets its contract: numbers are at most 12 and places at most 194, so the sum fits a u32.
 -- Assumes nothing.
 use native.Mathlib.Omega.{arith}
 use Rattle.model.proofs.Places.{number-most, of-most}

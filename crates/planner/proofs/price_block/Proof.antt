@@ -1,12 +1,9 @@
 -- `planner::price_block` meets its contract: the first refusal of the file and the block, or the price of the block's points.
 -- Assumes nothing.
-use mathlib.Core.Path.{_≡_, refl, sym, _∙_}
-use Rattle.model.specs.Answers.{andThen, pricing}
+use mathlib.Core.Path.{refl, sym, _∙_}
+use Rattle.model.specs.Answers.{pricing}
 use Rattle.model.specs.Planning.{chosen}
-use Rattle.model.specs.declared.Refusal.{Refusal}
-use Rattle.model.specs.declared.Verdict.{Verdict}
-use Rattle.model.specs.declared.Verdict.the-variants.{Accepted, Refused}
-use Rattle.model.proofs.Verdicts.{never-both, both-accepted}
+use Rattle.model.proofs.Verdicts.{both-accepted, before-refused}
 use Rattle.taskfile.specs.File.{verdict, taskOf}
 use Rattle.planvalue.proofs.Verdicts.{count-accepted}
 use Rattle.planblock.specs.Plans.{readVerdict, planOf}
@@ -15,12 +12,6 @@ use Rattle.planner.specs.Calls.{blockVerdict, blockPlan}
 use borrow.Author.Needs.{needs}
 use Rattle.planner.proofs.price_block.Statement.{statement}
 use Rattle.planner.proofs.price_block.Tie as tie
-
--- a refusal of two verdicts before a third
-before-refused : (u v w : Verdict) (x : Refusal) → andThen u v ≡ Refused x → andThen u (andThen v w) ≡ Refused x
-before-refused Accepted Accepted w x e = absurd (never-both e)
-before-refused Accepted (Refused y) w x e = e
-before-refused (Refused y) v w x e = e
 
 check-requires : tie.Need-check-requires
 check-requires c κs = search needs

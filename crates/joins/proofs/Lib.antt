@@ -1,0 +1,5 @@
+pub mod Tasks
+pub mod Parts
+pub mod Contained
+pub mod Joining
+pub mod Places

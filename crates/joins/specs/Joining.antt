@@ -1,0 +1,38 @@
+-- Two tasks run as one (document 02, item 8). Assumes nothing.
+use Prim.Native.Nat.{ℕ, min, _≤_}
+use mathlib.Core.Path.{_≡_}
+use mathlib.Core.Bool.{Bool, _&&_}
+use mathlib.Core.List.{_++_}
+use lib.Dec.{eqb, leb}
+use lib.ListN.{length}
+use Rattle.model.specs.Task.{Task, blockCount}
+
+-- basic blocks of the first, then of the second, and preempters (the document's interrupters) likewise; the smaller limit and the first's id.
+-- S, R and the scratch range are those of both
+unfoldable pub joined : Task → Task → Task
+joined t u =
+    record {
+      id = t .id;
+      lineCount = t .lineCount;
+      limit = min (t .limit) (u .limit);
+      reload = t .reload;
+      scratchFirst = t .scratchFirst;
+      scratchCount = t .scratchCount;
+      blocks = t .blocks ++ u .blocks;
+      preempters = t .preempters ++ u .preempters;
+    }
+
+-- S, R and the scratch range are equal; of the range both numbers are compared, also where it is empty
+unfoldable pub agree : Task → Task → Bool
+agree t u =
+    eqb (t .lineCount) (u .lineCount) && eqb (t .reload) (u .reload) && eqb (t .scratchFirst) (u .scratchFirst) && eqb (t .scratchCount) (u .scratchCount)
+
+-- so many basic blocks and preempters have room in a file
+unfoldable pub countsFit : ℕ → ℕ → Bool
+countsFit n m = leb n 64 && leb m 32
+
+-- a task's N and M, which have room in a file
+pub record Totals (t : Task) (n m : ℕ) : Type 0 where
+  pub blocks : n ≡ blockCount t
+  pub preempters : m ≡ length (t .preempters)
+  pub fit : (n ≤ 64) × (m ≤ 32)

@@ -1,4 +1,5 @@
--- Of the preempters nothing but their lines matters (document 02, item 7): each call answers alike on two files that differ in their preempters
+-- Of the preempters nothing but their lines matters (document 02, item 7): U, the search, regions,
+-- pricing, planning and replay, from C too, answer alike on two files that differ in their preempters
 -- alone, refusals and places included. The left sides are what the calls' contracts cite. Assumes nothing.
 use Prim.Native.Nat.{ℕ}
 use mathlib.Core.Path.{_≡_}

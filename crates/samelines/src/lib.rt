@@ -1,1 +1,1 @@
-// Of the preempters, nothing but their lines matters: statements about all calls, in specs/, and no function.
+// Of the preempters, nothing but their lines matters: statements about the calls on a file, in specs/, and no function.

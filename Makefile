@@ -30,7 +30,7 @@ parts: $(LIB) $(PROBE) $(PROGRAMS)
 
 # rt check proves crates side by side where it can; rt staticlib does not.
 target/planner.proved: $(SOURCES)
-	rt check planner replays
+	rt check planner replaying
 	touch $@
 
 $(LIB) $(PROBE): target/staticlib/lib%.a: target/planner.proved

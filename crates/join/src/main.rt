@@ -17,7 +17,7 @@ fn joined_length(first: usize, second: usize) -> usize
 
 // Writes the joined file, or says why there is none.
 fn write_joined(first: &[u8], second: &[u8], out: &mut [u8]) {
-    let joined = joins::join(first, second, out);
+    let joined = joining::join(first, second, out);
     let verdict = joined.verdict;
     let input = joined.input;
     match verdict {

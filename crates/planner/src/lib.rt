@@ -12,8 +12,8 @@ use model::Plan;
 use model::Refusal;
 use model::Verdict;
 use planblock::PlanRead;
-use plans::FilePlan;
-use prices::Price;
+use planning::FilePlan;
+use pricing::Price;
 
 // The useful lines at an edge.
 pub struct UsefulLines {
@@ -154,7 +154,7 @@ pub fn price(file: &[u8], points: &[u16]) -> Price
             cost: 0,
         };
     };
-    prices::price_of(file, points)
+    pricing::price_of(file, points)
 }
 
 // The plan of the points of a plan block, with the file's N and id.
@@ -170,7 +170,7 @@ pub fn price_block(file: &[u8], block: &[u8]) -> BlockPrice
     let Verdict::Accepted = before else {
         return no_block_price(before, answers::whose(checked, readable));
     };
-    let priced = plans::price_points(file, read.plan);
+    let priced = planning::price_points(file, read.plan);
     let verdict = priced.verdict;
     let plan = priced.plan;
     BlockPrice {
@@ -197,9 +197,9 @@ pub fn plan(file: &[u8]) -> FilePlan
 {
     let checked = taskfile::check(file);
     let Verdict::Accepted = checked else {
-        return plans::no_plan(checked);
+        return planning::no_plan(checked);
     };
-    plans::least_plan(file)
+    planning::least_plan(file)
 }
 
 // Stores a plan in a lent block.

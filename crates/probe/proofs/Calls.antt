@@ -23,7 +23,7 @@ use Rattle.taskfile.proofs.Places.{verdict-most}
 use Rattle.block.specs.Bytes.{le, les}
 use Rattle.block.proofs.Storing.{Stored, stored-none, stored-first, stored-number, les-snoc}
 use Rattle.planner.specs.Calls.{edgeVerdict, regionVerdict}
-use Rattle.replays.specs.Calls.{replayVerdict}
+use Rattle.replaying.specs.Calls.{replayVerdict}
 use Rattle.writer.specs.Writing.{outputRow}
 use Rattle.testload.specs.Calls.{countsRow, generateVerdict}
 

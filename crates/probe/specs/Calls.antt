@@ -13,7 +13,7 @@ use Rattle.model.specs.declared.Refusal.the-variants.{Output}
 use Rattle.model.specs.declared.Verdict.the-variants.{Refused}
 use Rattle.block.specs.Bytes.{les}
 use Rattle.planner.specs.Calls.{edgeVerdict, usefulWords, nextReadOf, lookedOf, regionVerdict, loadedWords, lengthOf}
-use Rattle.replays.specs.Calls.{replayVerdict, missesAloneOf, missesWithOf}
+use Rattle.replaying.specs.Calls.{replayVerdict, missesAloneOf, missesWithOf}
 
 -- the useful lines at edge k, in 64 bytes: the eight words of the set
 unfoldable pub usefulReturned : List ℕ → ℕ → List ℕ → ℕ

@@ -9,7 +9,7 @@ ghost use Rattle.model.specs.Answers.{returned, onAccepted};
 ghost use Rattle.model.specs.declared.Input.the-variants.{First};
 ghost use Rattle.block.specs.Bytes.{les};
 ghost use Rattle.testload.specs.Calls.{generateVerdict, generated};
-ghost use Rattle.joins.specs.Calls.{joinVerdict, joinInput, joinLeft};
+ghost use Rattle.joining.specs.Calls.{joinVerdict, joinInput, joinLeft};
 ghost use Rattle.probe.specs.Calls.{usefulReturned, usefulLeft, nextReturned, nextLeft, nextNumbers, regionReturned, regionLeft, replayReturned, replayLeft};
 use lineset::LineSet;
 use model::Input;
@@ -19,7 +19,7 @@ use model::Verdict;
 use planner::NextRead;
 use planner::RegionLines;
 use planner::UsefulLines;
-use replays::Misses;
+use replaying::Misses;
 
 // The useful lines at edge k, in 64 bytes.
 #[no_mangle]
@@ -75,7 +75,7 @@ pub extern "C" fn probe_replay(file: &[u8], points: &[u16], out: &mut [u8]) -> u
     if out.len() != 16 {
         return answers::returned(Input::First, Verdict::Refused(Refusal::Output));
     }
-    let found = replays::replay(file, points);
+    let found = replaying::replay(file, points);
     let verdict = found.verdict;
     keep_misses(found, out);
     answers::returned(Input::First, verdict)
@@ -105,7 +105,7 @@ pub extern "C" fn probe_join(first: &[u8], second: &[u8], out: &mut [u8]) -> u32
     ensures { λ r. ⌜ r ≡ returned (joinInput (now (first .entry)) (now (second .entry))) (joinVerdict (now (first .entry)) (now (second .entry)) (now (out .entry))) ⌝ }
     ensures { λ _. ⌜ now (out .exit) ≡ joinLeft (now (first .entry)) (now (second .entry)) (now (out .entry)) ⌝ }
 {
-    let joined = joins::join(first, second, out);
+    let joined = joining::join(first, second, out);
     let verdict = joined.verdict;
     let input = joined.input;
     answers::returned(input, verdict)

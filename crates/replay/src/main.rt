@@ -12,7 +12,7 @@ fn print_misses(alone: u32, preempted: u32) {
 
 // The answer to the first points.
 fn print_answer(file: &[u8], points: &[u16; 64], count: usize) {
-    let misses = replays::replay(file, desk::first(points, count));
+    let misses = replaying::replay(file, desk::first(points, count));
     let verdict = misses.verdict;
     match verdict {
         Verdict::Accepted => print_misses(misses.alone, misses.preempted),

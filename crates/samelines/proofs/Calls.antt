@@ -18,7 +18,7 @@ use Rattle.model.proofs.Verdicts.{never-both}
 use Rattle.taskfile.specs.File.{verdict, taskOf}
 use Rattle.planner.specs.Calls.{edgeVerdict, usefulWords, nextReadOf, lookedOf, regionVerdict, loadedWords, lengthOf, priceVerdict, priceLines, priceCost, blockVerdict, blockInput, blockPlan}
 use Rattle.planner.proofs.OneAnswer.{one-answer}
-use Rattle.replays.specs.Calls.{replayVerdict, missesAloneOf, missesWithOf}
+use Rattle.replaying.specs.Calls.{replayVerdict, missesAloneOf, missesWithOf}
 use Rattle.firmware.specs.Calls.{StoredBest, priceReturned, priceLeft}
 use Rattle.firmware.proofs.Results.{one-call}
 use Rattle.samelines.specs.Files.{SameLines}

@@ -13,7 +13,7 @@ use Rattle.model.specs.declared.Verdict.the-variants.{Accepted}
 use Rattle.block.specs.Bytes.{Each}
 use Rattle.taskfile.specs.File.{taskOf, fileOf, verdict, EntryWithin}
 use Rattle.planner.specs.Calls.{edgeVerdict, usefulWords, nextReadOf, lookedOf, regionVerdict, loadedWords, lengthOf, priceVerdict, priceLines, priceCost, blockVerdict, blockInput, blockPlan, PlanAnswer}
-use Rattle.replays.specs.Calls.{replayVerdict, missesAloneOf, missesWithOf}
+use Rattle.replaying.specs.Calls.{replayVerdict, missesAloneOf, missesWithOf}
 use Rattle.firmware.specs.Calls.{PlanCall, priceReturned, priceLeft}
 use Rattle.samelines.specs.Files.{SameLines}
 

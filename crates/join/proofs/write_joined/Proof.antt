@@ -1,6 +1,6 @@
 -- `join::write_joined` is safe: a refusal's place is at most 97. Assumes nothing.
 use mathlib.Core.Path.{sym, _∙_}
-use Rattle.joins.proofs.Places.{join-most}
+use Rattle.joining.proofs.Places.{join-most}
 use borrow.Author.Needs.{needs}
 use Rattle.join.proofs.write_joined.Statement.{statement}
 use Rattle.join.proofs.write_joined.Tie as tie

@@ -1,7 +1,7 @@
 -- `probe::probe_join` meets its contract: it returns what `join` answers.
 -- Assumes nothing.
 use borrow.Author.Needs.{needs}
-use Rattle.joins.proofs.Places.{join-most}
+use Rattle.joining.proofs.Places.{join-most}
 use Rattle.probe.proofs.probe_join.Statement.{statement}
 use Rattle.probe.proofs.probe_join.Tie as tie
 

@@ -1,0 +1,109 @@
+-- Laws of joined tasks: their counts, what the rows say when they accept, and that a joined task is within the limits of a file.
+-- Assumes nothing.
+use Prim.Native.Nat.{ℕ, _+_, _*_, _≤_, min}
+use mathlib.Core.Path.{_≡_, refl}
+use mathlib.Core.Bool.{true, _&&_}
+use mathlib.Core.List.{append-assoc}
+use native.Mathlib.Omega.{arith}
+use lib.Dec.{eqb, leb}
+use lib.ListN.{length, length-append}
+use borrow.Author.Tests.{eqb-true, leb-true, eq-eqb, le-leb}
+use Rattle.model.specs.Task.{Task, blockCount}
+use Rattle.model.specs.declared.Refusal.the-variants.{Output, Mismatch, TooManyBlocks}
+use Rattle.model.specs.declared.Verdict.the-variants.{Accepted}
+use Rattle.model.proofs.Verdicts.{both-accepted}
+use Rattle.model.proofs.Lists.{and-split}
+use Rattle.block.specs.Bytes.{Each}
+use Rattle.block.proofs.Each.{each-append}
+use Rattle.taskfile.specs.File.{countsInRange, headerInRange, headerNumbers, EntryWithin, Within}
+use Rattle.taskfile.proofs.Accepted.{row-holds, in-range}
+use Rattle.writer.specs.Writing.{outputRow, headerOf}
+use Rattle.writer.specs.declared.Header.{Header}
+use Rattle.joining.specs.Joining.{joined, agree, countsFit, Totals}
+use Rattle.joining.specs.Calls.{agreeRow, countsRow, joinRows}
+
+module _ (t u : Task) where
+  pub count-joined : blockCount (joined t u) ≡ blockCount t + blockCount u
+  unfolding joined
+  count-joined = length-append (t .blocks) (u .blocks)
+
+  pub preempters-joined : length (joined t u .preempters) ≡ length (t .preempters) + length (u .preempters)
+  unfolding joined
+  preempters-joined = length-append (t .preempters) (u .preempters)
+
+-- the numbers of the joined header
+pub header-joined : (t u : Task) (h : Header) → Totals (joined t u) (h .blocks) (h .preempters) → h .lines ≡ t .lineCount → h .limit ≡ min (t .limit) (u .limit)
+    → h .reload ≡ t .reload → h .id ≡ t .id → h .«scratch_first» ≡ t .scratchFirst → h .«scratch_count» ≡ t .scratchCount → headerOf (joined t u) ≡ h
+unfolding joined
+header-joined t u h totals e₁ e₂ e₃ e₄ e₅ e₆ = rw (← totals .blocks, ← totals .preempters, ← e₁, ← e₂, ← e₃, ← e₄, ← e₅, ← e₆)
+
+pub record Agreeing (t u : Task) : Type 0 where
+  pub lines : t .lineCount ≡ u .lineCount
+  pub reloads : t .reload ≡ u .reload
+  pub firsts : t .scratchFirst ≡ u .scratchFirst
+  pub counts : t .scratchCount ≡ u .scratchCount
+
+pub agreeing : (t u : Task) → agree t u ≡ true → Agreeing t u
+unfolding agree
+agreeing t u e =
+    let a = and-split (eqb (t .lineCount) (u .lineCount) && eqb (t .reload) (u .reload) && eqb (t .scratchFirst) (u .scratchFirst)) _ e in
+    let b = and-split (eqb (t .lineCount) (u .lineCount) && eqb (t .reload) (u .reload)) _ (a .0) in
+    let c = and-split (eqb (t .lineCount) (u .lineCount)) _ (b .0) in
+    record { lines = eqb-true _ _ (c .0); reloads = eqb-true _ _ (c .1); firsts = eqb-true _ _ (b .1); counts = eqb-true _ _ (a .1) }
+
+pub agreeing-agree : (t u : Task) → Agreeing t u → agree t u ≡ true
+unfolding agree
+agreeing-agree t u a = rw (eq-eqb _ _ (a .lines), eq-eqb _ _ (a .reloads), eq-eqb _ _ (a .firsts), eq-eqb _ _ (a .counts))
+
+pub counts-fit : (n m : ℕ) → countsFit n m ≡ true → (n ≤ 64) × (m ≤ 32)
+unfolding countsFit
+counts-fit n m e = let a = and-split (leb n 64) (leb m 32) e in (leb-true n 64 (a .0), leb-true m 32 (a .1))
+
+pub few-fit : (n m : ℕ) → n ≤ 64 → m ≤ 32 → countsFit n m ≡ true
+unfolding countsFit
+few-fit n m h l = rw (le-leb n 64 h, le-leb m 32 l)
+
+-- what the rows say when they accept
+pub record RowsAccept (t u : Task) (size : ℕ) : Type 0 where
+  pub agreed : agree t u ≡ true
+  pub fit : countsFit (blockCount (joined t u)) (length (joined t u .preempters)) ≡ true
+  pub long : size ≡ 512 * (1 + blockCount (joined t u) + length (joined t u .preempters))
+
+pub rows-accept : (t u : Task) (size : ℕ) → joinRows t u size ≡ Accepted → RowsAccept t u size
+unfolding joinRows agreeRow countsRow outputRow
+rows-accept t u size e =
+    let n = blockCount (joined t u) in
+    let m = length (joined t u .preempters) in
+    let first = both-accepted (agreeRow t u) _ e in
+    let second = both-accepted (countsRow n m) (outputRow n m size) (first .1) in
+    record {
+      agreed = row-holds Mismatch _ (first .0);
+      fit = row-holds TooManyBlocks _ (second .0);
+      long = eqb-true size _ (row-holds Output _ (second .1));
+    }
+
+-- the joined task is within the limits of a file
+pub within-joined : (t u : Task) → Within t → Within u → countsFit (blockCount (joined t u)) (length (joined t u .preempters)) ≡ true
+    → Within (joined t u)
+unfolding joined headerInRange countsInRange headerNumbers Each
+within-joined t u a b f =
+    let n : ℕ = blockCount (joined t u) in
+    let m : ℕ = length (joined t u .preempters) in
+    let s : ℕ = t .lineCount in
+    let range = in-range t (a .in-range) in
+    let fit = counts-fit n m f in
+    let least : 1 ≤ n = omega (arith, count-joined t u) in
+    let scratch = and-split (countsInRange (blockCount t) (length (t .preempters)) s) _ (a .in-range) .1 in
+    record {
+      in-range = rw (le-leb 1 n least, le-leb n 64 (fit .0), le-leb m 32 (fit .1), le-leb 1 s (range .3), le-leb s 512 (range .4), scratch) refl;
+      numbers = (omega arith, (omega arith, (omega arith, (omega arith, (omega arith, (omega arith, (omega arith, (omega arith, (omega arith, (omega arith, tt))))))))));
+      blocks = each-append (λ b. EntryWithin (b .time) (b .reads)) (t .blocks) (u .blocks) (a .blocks) (b .blocks);
+      preempters = each-append (λ p. EntryWithin (p .id) (p .reads)) (t .preempters) (u .preempters) (a .preempters) (b .preempters);
+    }
+
+-- joining is associative
+pub joined-assoc : (t u v : Task) → joined (joined t u) v ≡ joined t (joined u v)
+unfolding joined
+joined-assoc t u v =
+    let limits : min (min (t .limit) (u .limit)) (v .limit) ≡ min (t .limit) (min (u .limit) (v .limit)) = omega arith in
+    rw (append-assoc (t .blocks) (u .blocks) (v .blocks), append-assoc (t .preempters) (u .preempters) (v .preempters), limits)

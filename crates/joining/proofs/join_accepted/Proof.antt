@@ -1,0 +1,142 @@
+-- `joining::join_accepted` meets its contract: the rows in their order, and where all accept, the joined file is stored.
+-- Assumes nothing.
+use Prim.Native.Nat.{ℕ, _+_}
+use mathlib.Core.Path.{_≡_, refl, sym, ap₂, _∙_}
+use native.Mathlib.Omega.{arith}
+use lib.ListN.{length}
+use Rattle.model.specs.Answers.{andThen}
+use Rattle.model.specs.Task.{blockCount}
+use Rattle.taskfile.specs.File.{taskOf}
+use Rattle.writer.specs.Writing.{outputRow}
+use Rattle.joining.specs.Joining.{joined}
+use Rattle.joining.specs.Calls.{countsRow, joinRows}
+use Rattle.joining.proofs.Tasks.{count-joined, preempters-joined, counts-fit, rows-accept}
+use borrow.Author.Needs.{needs}
+use Rattle.joining.proofs.join_accepted.Statement.{statement}
+use Rattle.joining.proofs.join_accepted.Tie as tie
+
+-- N and M of the joined task
+totals : (c : tie.After-earlier2) → let others = c .before .before .before .before .before in
+    let more = others .before .before in
+    let args = more .before .before .before .before .before .args in
+    let both = joined (taskOf (args .first .now)) (taskOf (args .second .now)) in
+    (more .before .block-count .result + more .block-count2 .result ≡ blockCount both) ×
+    (others .before .preempter-count .result + others .preempter-count2 .result ≡ length (both .preempters))
+totals c =
+    let others = c .before .before .before .before .before in
+    let more = others .before .before in
+    let args = more .before .before .before .before .before .args in
+    let t = taskOf (args .first .now) in
+    let u = taskOf (args .second .now) in (
+      ap₂ _+_ (more .before .block-count .ensures .0) (more .block-count2 .ensures .0) ∙ sym (count-joined t u),
+      ap₂ _+_ (others .before .preempter-count .ensures .0) (others .preempter-count2 .ensures .0) ∙ sym (preempters-joined t u),
+    )
+
+-- the verdict is the one that the contract states
+decided : (c : tie.After-earlier2) → let args = c .before .before .before .before .before .before .before .before .before .before .before .before .args in
+    c .earlier2 .result ≡ joinRows (taskOf (args .first .now)) (taskOf (args .second .now)) (length (args .out .now))
+unfolding joinRows
+decided c =
+    let output = c .before .before in
+    let counts = output .before in
+    let args = counts .before .before .before .before .before .before .before .before .before .args in
+    let n = totals c .0 in
+    let m = totals c .1 in
+    c .earlier2 .ensures ∙
+    ap₂ andThen (counts .before .check-agree .ensures)
+    (c .before .earlier .ensures ∙
+    ap₂ andThen (counts .check-counts .ensures ∙ ap₂ countsRow n m) (output .check-output .ensures ∙ ap₂ (λ (x y : ℕ). outputRow x y (length (args .out .now))) n m))
+
+block-count-requires : tie.Need-block-count-requires
+block-count-requires c κs = search needs
+
+block-count-requires-2 : tie.Need-block-count-requires-2
+block-count-requires-2 c κs = search needs
+
+add-blocks : tie.Need-add-blocks
+add-blocks c = search needs
+
+preempter-count-requires : tie.Need-preempter-count-requires
+preempter-count-requires c κs = search needs
+
+preempter-count-requires-2 : tie.Need-preempter-count-requires-2
+preempter-count-requires-2 c κs = search needs
+
+add-preempters : tie.Need-add-preempters
+add-preempters c = search needs
+
+check-agree-requires : tie.Need-check-agree-requires
+check-agree-requires c κs = search needs
+
+check-counts-requires : tie.Need-check-counts-requires
+check-counts-requires c κs = search needs
+
+cast-check-output : tie.Need-cast-check-output
+cast-check-output c = search needs
+
+cast-check-output-2 : tie.Need-cast-check-output-2
+cast-check-output-2 c = search needs
+
+check-output-requires : tie.Need-check-output-requires
+check-output-requires c κs = search needs
+
+earlier-requires : tie.Need-earlier-requires
+earlier-requires c κs = search needs
+
+earlier-requires-2 : tie.Need-earlier-requires-2
+earlier-requires-2 c κs = search needs
+
+enum-told : tie.Need-enum-told
+enum-told c = search needs
+
+put-joined-requires : tie.Need-put-joined-requires
+put-joined-requires c κs =
+    let told = c .before in
+    let counts = totals (told .before .before) in
+    let start = told .before .before .before .before .before .before .before .before .before .before .before .before .before .before in
+    let t = taskOf (start .args .first .now) in
+    let u = taskOf (start .args .second .now) in
+    let rows = rows-accept t u (length (start .args .out .now)) (sym (decided (told .before .before)) ∙ told .enum-told .given .1) in
+    let fit = counts-fit _ _ (rows .fit) in (
+      start .pre,
+      (record { blocks = counts .0; preempters = counts .1; fit = (omega (arith, counts .0), omega (arith, counts .1)) }, omega (arith, rows .long, counts .0, counts .1)),
+    )
+
+enum-told-2 : tie.Need-enum-told-2
+enum-told-2 c = search needs
+
+same-length : tie.Need-same-length
+same-length c = search needs
+
+returns : tie.Need-returns
+returns c =
+    let put = c .before .before in
+    let told = put .before .before in
+    (decided (told .before .before), rw (told .enum-told .given .1) (put .put-joined .ensures))
+
+returns-2 : tie.Need-returns-2
+returns-2 c = (decided (c .before .before), rw (c .enum-told2 .given .1) refl)
+
+pub join-accepted-spec : {M : Type 1} → statement M
+join-accepted-spec =
+    tie.close
+    (tie.spec
+    block-count-requires
+    block-count-requires-2
+    add-blocks
+    preempter-count-requires
+    preempter-count-requires-2
+    add-preempters
+    check-agree-requires
+    check-counts-requires
+    cast-check-output
+    cast-check-output-2
+    check-output-requires
+    earlier-requires
+    earlier-requires-2
+    enum-told
+    put-joined-requires
+    enum-told-2
+    same-length
+    returns
+    returns-2)

@@ -1,0 +1,41 @@
+-- What joining two files answers, and what it leaves in the lent buffer (document 02, item 8). Assumes nothing.
+use Prim.Native.Nat.{ℕ}
+use mathlib.Core.Bool.{cond}
+use mathlib.Core.List.{List}
+use lib.ListN.{length}
+use Rattle.model.specs.Task.{Task, blockCount}
+use Rattle.model.specs.Answers.{onAccepted, andThen, whose}
+use Rattle.model.specs.declared.Input.{Input}
+use Rattle.model.specs.declared.Refusal.the-variants.{Mismatch, TooManyBlocks}
+use Rattle.model.specs.declared.Verdict.{Verdict}
+use Rattle.model.specs.declared.Verdict.the-variants.{Accepted, Refused}
+use Rattle.taskfile.specs.File.{taskOf, fileOf, verdict}
+use Rattle.writer.specs.Writing.{outputRow}
+use Rattle.joining.specs.Joining.{joined, agree, countsFit}
+
+-- refusal 11: S, R or the scratch range differ
+unfoldable pub agreeRow : Task → Task → Verdict
+agreeRow t u = cond (agree t u) Accepted (Refused Mismatch)
+
+-- refusal 12: too many basic blocks or preempters
+unfoldable pub countsRow : ℕ → ℕ → Verdict
+countsRow n m = cond (countsFit n m) Accepted (Refused TooManyBlocks)
+
+-- the rows about two tasks and a buffer of this length, in their order; N and M are those of the joined task
+unfoldable pub joinRows : Task → Task → ℕ → Verdict
+joinRows t u size =
+    let n = blockCount (joined t u) in
+    let m = length (joined t u .preempters) in
+    andThen (agreeRow t u) (andThen (countsRow n m) (outputRow n m size))
+
+-- the answer: the first file's refusals, then the second's, then these rows
+unfoldable pub joinVerdict : List ℕ → List ℕ → List ℕ → Verdict
+joinVerdict first second out = andThen (verdict first) (andThen (verdict second) (joinRows (taskOf first) (taskOf second) (length out)))
+
+-- whose refusal that is
+abbrev pub joinInput : List ℕ → List ℕ → Input
+joinInput first second = whose (verdict first) (verdict second)
+
+-- the buffer after the call: the bytes of the joined task, and on a refusal what it held
+unfoldable pub joinLeft : List ℕ → List ℕ → List ℕ → List ℕ
+joinLeft first second out = onAccepted (joinVerdict first second out) (fileOf (joined (taskOf first) (taskOf second))) out

@@ -1,0 +1,192 @@
+// Two task files joined into one: the basic blocks of the first and then of the second, and the preempters likewise.
+ghost use mathlib.Core.Path.{_≡_};
+ghost use mathlib.Core.List.{map};
+ghost use Prim.Native.Nat.{_+_, _*_, _≤_};
+ghost use Prim.Native.Nat as Nat;
+ghost use lib.ListN.{length, take};
+ghost use Rattle.model.specs.Task.{blockCount};
+ghost use Rattle.model.specs.Answers.{onAccepted};
+ghost use Rattle.block.specs.Bytes.{packed};
+ghost use Rattle.block.specs.Blocks.{numbered};
+ghost use Rattle.taskfile.specs.File.{basicBytes, preempterBytes, headerNumbers, taskOf, fileOf, verdict};
+ghost use Rattle.writer.specs.Writing.{Written};
+ghost use Rattle.joining.specs.Joining.{joined, agree, Totals};
+ghost use Rattle.joining.specs.Calls.{agreeRow, countsRow, joinRows, joinVerdict, joinInput, joinLeft};
+use model::Input;
+use model::Refusal;
+use model::Verdict;
+use writer::Header;
+
+// The answer of a join, and whose refusal it is.
+pub struct Joined {
+    pub verdict: Verdict,
+    pub input: Input,
+}
+
+// The smaller of two numbers.
+fn smaller(a: u32, b: u32) -> u32
+    ensures { λ r. ⌜ r ≡ Nat.min a b ⌝ }
+{
+    if a < b { a } else { b }
+}
+
+// Whether two accepted files have the same S, R and scratch range.
+fn same_cache(first: &[u8], second: &[u8]) -> bool
+    requires { ⌜ (verdict (now first) ≡ Verdict.Accepted) × (verdict (now second) ≡ Verdict.Accepted) ⌝ }
+    ensures { λ r. ⌜ r ≡ agree (taskOf (now (first .entry))) (taskOf (now (second .entry))) ⌝ }
+{
+    if taskfile::line_count(first) != taskfile::line_count(second) {
+        return false;
+    }
+    if taskfile::reload(first) != taskfile::reload(second) {
+        return false;
+    }
+    if taskfile::scratch_first(first) != taskfile::scratch_first(second) {
+        return false;
+    }
+    taskfile::scratch_count(first) == taskfile::scratch_count(second)
+}
+
+// Refuses accepted files of different caches.
+fn check_agree(first: &[u8], second: &[u8]) -> Verdict
+    requires { ⌜ (verdict (now first) ≡ Verdict.Accepted) × (verdict (now second) ≡ Verdict.Accepted) ⌝ }
+    ensures { λ r. ⌜ r ≡ agreeRow (taskOf (now (first .entry))) (taskOf (now (second .entry))) ⌝ }
+{
+    if same_cache(first, second) {
+        Verdict::Accepted
+    } else {
+        Verdict::Refused(Refusal::Mismatch)
+    }
+}
+
+// Refuses more basic blocks or preempters than a file has room for.
+fn check_counts(blocks: usize, preempters: usize) -> Verdict
+    ensures { λ r. ⌜ r ≡ countsRow blocks preempters ⌝ }
+{
+    if blocks > 64 {
+        return Verdict::Refused(Refusal::TooManyBlocks);
+    }
+    if preempters > 32 {
+        return Verdict::Refused(Refusal::TooManyBlocks);
+    }
+    Verdict::Accepted
+}
+
+// Stores the header of the joined task, which has so many basic blocks and preempters.
+fn put_header(block: &mut [u8], first: &[u8], second: &[u8], blocks: usize, preempters: usize)
+    requires { ⌜ (length (now block) ≡ 512) × (verdict (now first) ≡ Verdict.Accepted) × (verdict (now second) ≡ Verdict.Accepted) ⌝ }
+    requires { ⌜ Totals (joined (taskOf (now first)) (taskOf (now second))) blocks preempters ⌝ }
+    ensures { λ _. ⌜ take 508 (now (block .exit)) ≡ numbered 0 (packed (headerNumbers (joined (taskOf (now (first .entry))) (taskOf (now (second .entry)))))) ⌝ }
+{
+    let lines = taskfile::line_count(first) as u16;
+    let limit = smaller(taskfile::limit(first), taskfile::limit(second));
+    let reload = taskfile::reload(first);
+    let id = taskfile::id(first);
+    let scratch_first = taskfile::scratch_first(first);
+    let scratch_count = taskfile::scratch_count(first);
+    let header = Header {
+        blocks: blocks as u16,
+        preempters: preempters as u16,
+        lines,
+        limit,
+        reload,
+        id,
+        scratch_first,
+        scratch_count,
+    };
+    writer::put_header(block, header);
+}
+
+// Copies the basic blocks of both files, all but their checksums.
+fn put_basics(out: &mut [u8], first: &[u8], second: &[u8])
+    requires { ⌜ (verdict (now first) ≡ Verdict.Accepted) × (verdict (now second) ≡ Verdict.Accepted) ⌝ }
+    requires { ⌜ length (now out) ≡ 512 * blockCount (joined (taskOf (now first)) (taskOf (now second))) ⌝ }
+    ensures { λ _. ⌜ Written 1 (map basicBytes (joined (taskOf (now (first .entry))) (taskOf (now (second .entry))) .blocks)) (now (out .exit)) ⌝ }
+{
+    let count = taskfile::block_count(first);
+    let more = taskfile::block_count(second);
+    let first_end = 512 + 512 * count;
+    let second_end = 512 + 512 * more;
+    writer::copy_both(
+        out,
+        &first[512..first_end],
+        &second[512..second_end],
+        1,
+        count,
+        more,
+    );
+}
+
+// Copies the preempter blocks of both files, numbered from number, all but their checksums.
+fn put_preempters(out: &mut [u8], first: &[u8], second: &[u8], number: u32)
+    requires { ⌜ (verdict (now first) ≡ Verdict.Accepted) × (verdict (now second) ≡ Verdict.Accepted) × (number ≤ 65) ⌝ }
+    requires { ⌜ length (now out) ≡ 512 * length (joined (taskOf (now first)) (taskOf (now second)) .preempters) ⌝ }
+    ensures { λ _. ⌜ Written number (map preempterBytes (joined (taskOf (now (first .entry))) (taskOf (now (second .entry))) .preempters)) (now (out .exit)) ⌝ }
+{
+    let count = taskfile::preempter_count(first);
+    let more = taskfile::preempter_count(second);
+    let first_start = 512 + 512 * taskfile::block_count(first);
+    let second_start = 512 + 512 * taskfile::block_count(second);
+    writer::copy_both(
+        out,
+        &first[first_start..],
+        &second[second_start..],
+        number,
+        count,
+        more,
+    );
+}
+
+// Stores the joined file, which has so many basic blocks and preempters, in a buffer of its length.
+fn put_joined(out: &mut [u8], first: &[u8], second: &[u8], blocks: usize, preempters: usize)
+    requires { ⌜ (verdict (now first) ≡ Verdict.Accepted) × (verdict (now second) ≡ Verdict.Accepted) ⌝ }
+    requires { ⌜ Totals (joined (taskOf (now first)) (taskOf (now second))) blocks preempters ⌝ }
+    requires { ⌜ length (now out) ≡ 512 * (1 + blocks + preempters) ⌝ }
+    ensures { λ _. ⌜ now (out .exit) ≡ fileOf (joined (taskOf (now (first .entry))) (taskOf (now (second .entry)))) ⌝ }
+{
+    put_header(&mut out[..512], first, second, blocks, preempters);
+    let basic_end = 512 + 512 * blocks;
+    put_basics(&mut out[512..basic_end], first, second);
+    put_preempters(&mut out[basic_end..], first, second, 1 + blocks as u32);
+    block::seal_blocks(out, 1 + blocks + preempters);
+}
+
+// Joins accepted files.
+fn join_accepted(out: &mut [u8], first: &[u8], second: &[u8]) -> Verdict
+    requires { ⌜ (verdict (now first) ≡ Verdict.Accepted) × (verdict (now second) ≡ Verdict.Accepted) ⌝ }
+    ensures { λ r. ⌜ r ≡ joinRows (taskOf (now (first .entry))) (taskOf (now (second .entry))) (length (now (out .entry))) ⌝ }
+    ensures { λ r. ⌜ now (out .exit) ≡ onAccepted r (fileOf (joined (taskOf (now (first .entry))) (taskOf (now (second .entry))))) (now (out .entry)) ⌝ }
+{
+    let blocks = taskfile::block_count(first) + taskfile::block_count(second);
+    let preempters = taskfile::preempter_count(first) + taskfile::preempter_count(second);
+    let agree = check_agree(first, second);
+    let counts = check_counts(blocks, preempters);
+    let output = writer::check_output(blocks as u32, preempters as u32, out.len());
+    let verdict = answers::earlier(agree, answers::earlier(counts, output));
+    match verdict {
+        Verdict::Accepted => put_joined(out, first, second, blocks, preempters),
+        Verdict::Refused(_) => {}
+    }
+    verdict
+}
+
+// Joins two files into a buffer: the first file's refusals, the second's, 11 and 12 for the two tasks, and then 9 for the buffer's length. On a
+// refusal the buffer stays what it was.
+pub fn join(first: &[u8], second: &[u8], out: &mut [u8]) -> Joined
+    ensures { λ r. ⌜ r .verdict ≡ joinVerdict (now (first .entry)) (now (second .entry)) (now (out .entry)) ⌝ }
+    ensures { λ r. ⌜ r .input ≡ joinInput (now (first .entry)) (now (second .entry)) ⌝ }
+    ensures { λ _. ⌜ now (out .exit) ≡ joinLeft (now (first .entry)) (now (second .entry)) (now (out .entry)) ⌝ }
+{
+    let first_checked = taskfile::check(first);
+    let second_checked = taskfile::check(second);
+    let input = answers::whose(first_checked, second_checked);
+    let checked = answers::earlier(first_checked, second_checked);
+    let Verdict::Accepted = checked else {
+        return Joined {
+            verdict: checked,
+            input,
+        };
+    };
+    let verdict = join_accepted(out, first, second);
+    Joined { verdict, input }
+}

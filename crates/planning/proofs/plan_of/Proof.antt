@@ -1,0 +1,28 @@
+-- `planning::plan_of` meets its contract: N and id are read from the file.
+-- Assumes nothing.
+use mathlib.Core.Path.{refl}
+use borrow.Author.Needs.{needs}
+use Rattle.planning.proofs.plan_of.Statement.{statement}
+use Rattle.planning.proofs.plan_of.Tie as tie
+
+block-count-requires : tie.Need-block-count-requires
+block-count-requires c κs = search needs
+
+cast-blocks : tie.Need-cast-blocks
+cast-blocks c = search needs
+
+id-requires : tie.Need-id-requires
+id-requires c κs = search needs
+
+cast-count : tie.Need-cast-count
+cast-count c = search needs
+
+cast-lines : tie.Need-cast-lines
+cast-lines c = search needs
+
+returns : tie.Need-returns
+returns c = rw (c .before .before .block-count .ensures .0, c .before .id .ensures) refl
+
+pub plan-of-spec : {M : Type 1} → statement M
+plan-of-spec =
+    tie.close (tie.spec block-count-requires cast-blocks id-requires cast-count cast-lines returns)

@@ -2,14 +2,13 @@
 -- Assumes nothing.
 use Prim.Native.Nat.{ℕ, _+_, _≤_}
 use mathlib.Core.Path.{_≡_, refl, ap₂}
-use mathlib.Core.Bool.{Bool, true, false, cond, _&&_}
+use mathlib.Core.Bool.{Bool, true, false, cond, _&&_, and-eq-true-iff}
 use mathlib.Core.List.{List, [], _∷_, _++_, append-assoc}
 use native.Mathlib.Omega.{arith}
 use lib.Dec.{eqb}
 use lib.ListN.{length, take, drop, length-append}
 use lib.Seq.{take-add, drop-drop}
 use borrow.Author.Tests.{eqb-true}
-use Rattle.model.proofs.Lists.{and-split}
 use Rattle.block.specs.Bytes.{AllBytes, Sized, InWidth, le, packed, field, Each}
 use Rattle.block.proofs.Bytes.{length-le, le-field, field-le, field-below, pow-bytes, bytes-append, bytes-le}
 
@@ -68,7 +67,7 @@ field-packed before after at (s ∷ ss) l f p w =
         → (let ys = before ++ le (s .0) (s .1) ++ packed ss ++ after in field ys p w ≡ numberAt (at + s .0) ss p w (field ys p w))
         → field bs p w ≡ cond b (s .1) (numberAt (at + s .0) ss p w (field bs p w))
     go true e ih =
-        let both = and-split (eqb p at) (eqb w (s .0)) e in
+        let both = and-eq-true-iff (eqb p at) (eqb w (s .0)) .0 e in
         rw (eqb-true p at (both .0), eqb-true w (s .0) (both .1), first) (field-le before (packed ss ++ after) at (s .0) (s .1) l (f .0))
     go false e ih = rw later ih
 

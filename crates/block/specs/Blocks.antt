@@ -34,8 +34,3 @@ bodyRight k named bs = sameList (take 508 bs) (numbered k named)
 -- named bytes up to end: the first two are given, the kind and byte 1, and the others are free, so as they stand in the block
 unfoldable pub framed : ℕ → ℕ → ℕ → List ℕ → List ℕ
 framed kind byte1 end bs = le 1 kind ++ le 1 byte1 ++ take (end - 2) (drop 2 bs)
-
--- the lowest k, of the n from a, at which f does not hold
-unfoldable pub lowestFrom : (ℕ → Bool) → ℕ → ℕ → Place
-lowestFrom f a zero = Nowhere
-lowestFrom f a (suc n) = cond (f a) (lowestFrom f (suc a) n) (At a)

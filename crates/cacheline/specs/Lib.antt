@@ -1,1 +1,1 @@
-pub mod Caches
+pub mod Geometries

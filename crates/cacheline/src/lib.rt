@@ -1,32 +1,31 @@
-// The cache of an accepted file, and the line of a memory block in it.
+// The geometry of an accepted file's cache, and the line of a memory block in it.
 ghost use mathlib.Core.Path.{_≡_};
 ghost use Prim.Native.Nat.{_%_, _<_};
 ghost use Rattle.model.specs.Task.{Task};
 ghost use Rattle.model.specs.Lines.{lineOf, onLine};
 ghost use Rattle.model.specs.Lines as Lines;
-ghost use Rattle.taskfile.specs.File.{verdict, taskOf};
-ghost use Rattle.cacheline.specs.Caches.{Sound, CacheOf, WithinCache};
+ghost use Rattle.taskfile.specs.File.{IsAccepted, taskOf};
+ghost use Rattle.cacheline.specs.Geometries.{Sound, GeometryOf, WithinCache};
 use model::Mapping;
-use model::Verdict;
 
 // The number of lines, and 2^32 divided by it, which spares a division for each read; and the memory blocks that bypass the cache, from the
 // first up to the end.
-pub struct Cache {
+pub struct Geometry {
     pub count: u32,
     pub inverse: u64,
     pub first: u64,
     pub end: u64,
 }
 
-// The cache of a file.
-pub fn cache_of(file: &[u8]) -> Cache
-    requires { ⌜ verdict (now file) ≡ Verdict.Accepted ⌝ }
-    ensures { λ r. ⌜ CacheOf (taskOf (now (file .entry))) r ⌝ }
+// The geometry of a file's cache.
+pub fn geometry_of(file: &[u8]) -> Geometry
+    requires { ⌜ IsAccepted (now file) ⌝ }
+    ensures { λ r. ⌜ GeometryOf (taskOf (now (file .entry))) r ⌝ }
 {
     let count = taskfile::line_count(file);
     let first = taskfile::scratch_first(file) as u64;
     let end = first + taskfile::scratch_count(file) as u64;
-    Cache {
+    Geometry {
         count,
         inverse: 4294967296 / count as u64,
         first,
@@ -34,11 +33,11 @@ pub fn cache_of(file: &[u8]) -> Cache
     }
 }
 
-impl Cache {
+impl Geometry {
     // The line of a memory block, or none.
     pub fn line_of(self, number: u32) -> Mapping
         requires { ⌜ Sound self ⌝ }
-        ensures { λ r. ⌜ ((t : Task) → CacheOf t self → r ≡ lineOf t number) × WithinCache r ⌝ }
+        ensures { λ r. ⌜ ((t : Task) → GeometryOf t self → r ≡ lineOf t number) × WithinCache r ⌝ }
     {
         if self.bypasses(number) {
             Mapping::Uncached
@@ -50,7 +49,7 @@ impl Cache {
     // Whether a memory block lies on line c.
     pub fn lies_on(self, number: u32, c: usize) -> bool
         requires { ⌜ Sound self ⌝ }
-        ensures { λ r. ⌜ ((t : Task) → CacheOf t self → r ≡ onLine t c number) ⌝ }
+        ensures { λ r. ⌜ ((t : Task) → GeometryOf t self → r ≡ onLine t c number) ⌝ }
     {
         if c == self.remainder(number) {
             return !self.bypasses(number);
@@ -60,7 +59,7 @@ impl Cache {
 
     // Whether a memory block is in the scratch range.
     fn bypasses(self, number: u32) -> bool
-        ensures { λ r. ⌜ ((t : Task) → CacheOf t self → r ≡ Lines.bypasses t number) ⌝ }
+        ensures { λ r. ⌜ ((t : Task) → GeometryOf t self → r ≡ Lines.bypasses t number) ⌝ }
     {
         let at = number as u64;
         if at < self.end {

@@ -15,7 +15,7 @@ use Rattle.model.specs.declared.Input.the-variants.{First}
 use Rattle.model.specs.declared.Refusal.{Refusal}
 use Rattle.model.specs.declared.Refusal.the-variants.{NoPlacement, Output}
 use Rattle.model.specs.declared.Verdict.the-variants.{Accepted, Refused}
-use Rattle.taskfile.specs.File.{verdict, taskOf}
+use Rattle.taskfile.specs.File.{IsAccepted, verdict, taskOf}
 use Rattle.planblock.specs.Plans.{planBytes, planOf}
 use Rattle.planner.specs.Calls.{blockVerdict, blockInput}
 
@@ -29,7 +29,7 @@ pub record StoredBest (t : Task) (left : List ℕ) : Type 0 where
 pub record PlanCall (file block : List ℕ) (r : ℕ) (left : List ℕ) : Type 0 where
   pub output : (length block ≡ 512 → ⊥) → (r ≡ returned First (Refused Output)) × (left ≡ block)
   pub refused : length block ≡ 512 → (x : Refusal) → verdict file ≡ Refused x → (r ≡ returned First (Refused x)) × (left ≡ block)
-  pub planned : length block ≡ 512 → verdict file ≡ Accepted
+  pub planned : length block ≡ 512 → IsAccepted file
       → (NoPlacementFits (taskOf file) × (r ≡ returned First (Refused NoPlacement)) × (left ≡ block)) ⊎ (StoredBest (taskOf file) left × (r ≡ 0))
 
 -- pricing the points of a first block; the file is the first input, that block the second

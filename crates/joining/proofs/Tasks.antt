@@ -2,7 +2,7 @@
 -- Assumes nothing.
 use Prim.Native.Nat.{ℕ, _+_, _*_, _≤_, min}
 use mathlib.Core.Path.{_≡_, refl}
-use mathlib.Core.Bool.{true, _&&_}
+use mathlib.Core.Bool.{true, _&&_, and-eq-true-iff}
 use mathlib.Core.List.{append-assoc}
 use native.Mathlib.Omega.{arith}
 use lib.Dec.{eqb, leb}
@@ -11,12 +11,11 @@ use borrow.Author.Tests.{eqb-true, leb-true, eq-eqb, le-leb}
 use Rattle.model.specs.Task.{Task, blockCount}
 use Rattle.model.specs.declared.Refusal.the-variants.{Output, Mismatch, TooManyBlocks}
 use Rattle.model.specs.declared.Verdict.the-variants.{Accepted}
-use Rattle.model.proofs.Verdicts.{both-accepted}
-use Rattle.model.proofs.Lists.{and-split}
+use Rattle.model.proofs.Verdicts.{row-holds, both-accepted}
 use Rattle.block.specs.Bytes.{Each}
 use Rattle.block.proofs.Each.{each-append}
 use Rattle.taskfile.specs.File.{countsInRange, headerInRange, headerNumbers, EntryWithin, Within}
-use Rattle.taskfile.proofs.Accepted.{row-holds, in-range}
+use Rattle.taskfile.proofs.Accepted.{in-range}
 use Rattle.writer.specs.Writing.{outputRow, headerOf}
 use Rattle.writer.specs.declared.Header.{Header}
 use Rattle.joining.specs.Joining.{joined, agree, countsFit, Totals}
@@ -46,9 +45,9 @@ pub record Agreeing (t u : Task) : Type 0 where
 pub agreeing : (t u : Task) → agree t u ≡ true → Agreeing t u
 unfolding agree
 agreeing t u e =
-    let a = and-split (eqb (t .lineCount) (u .lineCount) && eqb (t .reload) (u .reload) && eqb (t .scratchFirst) (u .scratchFirst)) _ e in
-    let b = and-split (eqb (t .lineCount) (u .lineCount) && eqb (t .reload) (u .reload)) _ (a .0) in
-    let c = and-split (eqb (t .lineCount) (u .lineCount)) _ (b .0) in
+    let a = and-eq-true-iff (eqb (t .lineCount) (u .lineCount) && eqb (t .reload) (u .reload) && eqb (t .scratchFirst) (u .scratchFirst)) _ .0 e in
+    let b = and-eq-true-iff (eqb (t .lineCount) (u .lineCount) && eqb (t .reload) (u .reload)) _ .0 (a .0) in
+    let c = and-eq-true-iff (eqb (t .lineCount) (u .lineCount)) _ .0 (b .0) in
     record { lines = eqb-true _ _ (c .0); reloads = eqb-true _ _ (c .1); firsts = eqb-true _ _ (b .1); counts = eqb-true _ _ (a .1) }
 
 pub agreeing-agree : (t u : Task) → Agreeing t u → agree t u ≡ true
@@ -57,7 +56,7 @@ agreeing-agree t u a = rw (eq-eqb _ _ (a .lines), eq-eqb _ _ (a .reloads), eq-eq
 
 pub counts-fit : (n m : ℕ) → countsFit n m ≡ true → (n ≤ 64) × (m ≤ 32)
 unfolding countsFit
-counts-fit n m e = let a = and-split (leb n 64) (leb m 32) e in (leb-true n 64 (a .0), leb-true m 32 (a .1))
+counts-fit n m e = let a = and-eq-true-iff (leb n 64) (leb m 32) .0 e in (leb-true n 64 (a .0), leb-true m 32 (a .1))
 
 pub few-fit : (n m : ℕ) → n ≤ 64 → m ≤ 32 → countsFit n m ≡ true
 unfolding countsFit
@@ -93,7 +92,7 @@ within-joined t u a b f =
     let range = in-range t (a .in-range) in
     let fit = counts-fit n m f in
     let least : 1 ≤ n = omega (arith, count-joined t u) in
-    let scratch = and-split (countsInRange (blockCount t) (length (t .preempters)) s) _ (a .in-range) .1 in
+    let scratch = and-eq-true-iff (countsInRange (blockCount t) (length (t .preempters)) s) _ .0 (a .in-range) .1 in
     record {
       in-range = rw (le-leb 1 n least, le-leb n 64 (fit .0), le-leb m 32 (fit .1), le-leb 1 s (range .3), le-leb s 512 (range .4), scratch) refl;
       numbers = (omega arith, (omega arith, (omega arith, (omega arith, (omega arith, (omega arith, (omega arith, (omega arith, (omega arith, (omega arith, tt))))))))));

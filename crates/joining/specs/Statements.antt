@@ -7,7 +7,7 @@ use lib.ListN.{length}
 use Rattle.model.specs.Task.{Task, blockCount}
 use Rattle.model.specs.Lines.{useful}
 use Rattle.model.specs.declared.Verdict.the-variants.{Accepted}
-use Rattle.taskfile.specs.File.{taskOf, fileOf, verdict}
+use Rattle.taskfile.specs.File.{taskOf, fileOf, IsAccepted}
 use Rattle.joining.specs.Joining.{joined, agree, countsFit}
 use Rattle.joining.specs.Calls.{joinVerdict, joinLeft}
 
@@ -15,7 +15,7 @@ use Rattle.joining.specs.Calls.{joinVerdict, joinLeft}
 abbrev pub JoinedAccepted : Type 0
 JoinedAccepted =
     (first second out : List ℕ) → joinVerdict first second out ≡ Accepted
-    → (verdict (joinLeft first second out) ≡ Accepted) × (taskOf (joinLeft first second out) ≡ joined (taskOf first) (taskOf second))
+    → IsAccepted (joinLeft first second out) × (taskOf (joinLeft first second out) ≡ joined (taskOf first) (taskOf second))
 
 -- three tasks agree in S, R and range, and the totals fit
 pub record ThreeAgree (t u v : Task) : Type 0 where
@@ -26,7 +26,7 @@ pub record ThreeAgree (t u v : Task) : Type 0 where
 -- three such files, in buffers of the joined lengths: the same bytes, whether the first two or the last two are joined first
 abbrev pub JoinedInOrder : Type 0
 JoinedInOrder =
-    (f g h two other three : List ℕ) → verdict f ≡ Accepted → verdict g ≡ Accepted → verdict h ≡ Accepted → ThreeAgree (taskOf f) (taskOf g) (taskOf h)
+    (f g h two other three : List ℕ) → IsAccepted f → IsAccepted g → IsAccepted h → ThreeAgree (taskOf f) (taskOf g) (taskOf h)
     → length two ≡ length (fileOf (joined (taskOf f) (taskOf g))) → length other ≡ length (fileOf (joined (taskOf g) (taskOf h)))
     → length three ≡ length (fileOf (joined (joined (taskOf f) (taskOf g)) (taskOf h)))
     → (joinVerdict (joinLeft f g two) h three ≡ Accepted) × (joinVerdict f (joinLeft g h other) three ≡ Accepted) ×

@@ -8,7 +8,7 @@ ghost use Rattle.model.specs.Task.{blockCount};
 ghost use Rattle.model.specs.Answers.{onAccepted};
 ghost use Rattle.block.specs.Bytes.{packed};
 ghost use Rattle.block.specs.Blocks.{numbered};
-ghost use Rattle.taskfile.specs.File.{basicBytes, preempterBytes, headerNumbers, taskOf, fileOf, verdict};
+ghost use Rattle.taskfile.specs.File.{basicBytes, preempterBytes, headerNumbers, taskOf, fileOf, IsAccepted};
 ghost use Rattle.writer.specs.Writing.{Written};
 ghost use Rattle.joining.specs.Joining.{joined, agree, Totals};
 ghost use Rattle.joining.specs.Calls.{agreeRow, countsRow, joinRows, joinVerdict, joinInput, joinLeft};
@@ -32,7 +32,7 @@ fn smaller(a: u32, b: u32) -> u32
 
 // Whether two accepted files have the same S, R and scratch range.
 fn same_cache(first: &[u8], second: &[u8]) -> bool
-    requires { ⌜ (verdict (now first) ≡ Verdict.Accepted) × (verdict (now second) ≡ Verdict.Accepted) ⌝ }
+    requires { ⌜ IsAccepted (now first) × IsAccepted (now second) ⌝ }
     ensures { λ r. ⌜ r ≡ agree (taskOf (now (first .entry))) (taskOf (now (second .entry))) ⌝ }
 {
     if taskfile::line_count(first) != taskfile::line_count(second) {
@@ -49,7 +49,7 @@ fn same_cache(first: &[u8], second: &[u8]) -> bool
 
 // Refuses accepted files of different caches.
 fn check_agree(first: &[u8], second: &[u8]) -> Verdict
-    requires { ⌜ (verdict (now first) ≡ Verdict.Accepted) × (verdict (now second) ≡ Verdict.Accepted) ⌝ }
+    requires { ⌜ IsAccepted (now first) × IsAccepted (now second) ⌝ }
     ensures { λ r. ⌜ r ≡ agreeRow (taskOf (now (first .entry))) (taskOf (now (second .entry))) ⌝ }
 {
     if same_cache(first, second) {
@@ -74,7 +74,7 @@ fn check_counts(blocks: usize, preempters: usize) -> Verdict
 
 // Stores the header of the joined task, which has so many basic blocks and preempters.
 fn put_header(block: &mut [u8], first: &[u8], second: &[u8], blocks: usize, preempters: usize)
-    requires { ⌜ (length (now block) ≡ 512) × (verdict (now first) ≡ Verdict.Accepted) × (verdict (now second) ≡ Verdict.Accepted) ⌝ }
+    requires { ⌜ (length (now block) ≡ 512) × IsAccepted (now first) × IsAccepted (now second) ⌝ }
     requires { ⌜ Totals (joined (taskOf (now first)) (taskOf (now second))) blocks preempters ⌝ }
     ensures { λ _. ⌜ take 508 (now (block .exit)) ≡ numbered 0 (packed (headerNumbers (joined (taskOf (now (first .entry))) (taskOf (now (second .entry)))))) ⌝ }
 {
@@ -99,7 +99,7 @@ fn put_header(block: &mut [u8], first: &[u8], second: &[u8], blocks: usize, pree
 
 // Copies the basic blocks of both files, all but their checksums.
 fn put_basics(out: &mut [u8], first: &[u8], second: &[u8])
-    requires { ⌜ (verdict (now first) ≡ Verdict.Accepted) × (verdict (now second) ≡ Verdict.Accepted) ⌝ }
+    requires { ⌜ IsAccepted (now first) × IsAccepted (now second) ⌝ }
     requires { ⌜ length (now out) ≡ 512 * blockCount (joined (taskOf (now first)) (taskOf (now second))) ⌝ }
     ensures { λ _. ⌜ Written 1 (map basicBytes (joined (taskOf (now (first .entry))) (taskOf (now (second .entry))) .blocks)) (now (out .exit)) ⌝ }
 {
@@ -119,7 +119,7 @@ fn put_basics(out: &mut [u8], first: &[u8], second: &[u8])
 
 // Copies the preempter blocks of both files, numbered from number, all but their checksums.
 fn put_preempters(out: &mut [u8], first: &[u8], second: &[u8], number: u32)
-    requires { ⌜ (verdict (now first) ≡ Verdict.Accepted) × (verdict (now second) ≡ Verdict.Accepted) × (number ≤ 65) ⌝ }
+    requires { ⌜ IsAccepted (now first) × IsAccepted (now second) × (number ≤ 65) ⌝ }
     requires { ⌜ length (now out) ≡ 512 * length (joined (taskOf (now first)) (taskOf (now second)) .preempters) ⌝ }
     ensures { λ _. ⌜ Written number (map preempterBytes (joined (taskOf (now (first .entry))) (taskOf (now (second .entry))) .preempters)) (now (out .exit)) ⌝ }
 {
@@ -139,7 +139,7 @@ fn put_preempters(out: &mut [u8], first: &[u8], second: &[u8], number: u32)
 
 // Stores the joined file, which has so many basic blocks and preempters, in a buffer of its length.
 fn put_joined(out: &mut [u8], first: &[u8], second: &[u8], blocks: usize, preempters: usize)
-    requires { ⌜ (verdict (now first) ≡ Verdict.Accepted) × (verdict (now second) ≡ Verdict.Accepted) ⌝ }
+    requires { ⌜ IsAccepted (now first) × IsAccepted (now second) ⌝ }
     requires { ⌜ Totals (joined (taskOf (now first)) (taskOf (now second))) blocks preempters ⌝ }
     requires { ⌜ length (now out) ≡ 512 * (1 + blocks + preempters) ⌝ }
     ensures { λ _. ⌜ now (out .exit) ≡ fileOf (joined (taskOf (now (first .entry))) (taskOf (now (second .entry)))) ⌝ }
@@ -153,7 +153,7 @@ fn put_joined(out: &mut [u8], first: &[u8], second: &[u8], blocks: usize, preemp
 
 // Joins accepted files.
 fn join_accepted(out: &mut [u8], first: &[u8], second: &[u8]) -> Verdict
-    requires { ⌜ (verdict (now first) ≡ Verdict.Accepted) × (verdict (now second) ≡ Verdict.Accepted) ⌝ }
+    requires { ⌜ IsAccepted (now first) × IsAccepted (now second) ⌝ }
     ensures { λ r. ⌜ r ≡ joinRows (taskOf (now (first .entry))) (taskOf (now (second .entry))) (length (now (out .entry))) ⌝ }
     ensures { λ r. ⌜ now (out .exit) ≡ onAccepted r (fileOf (joined (taskOf (now (first .entry))) (taskOf (now (second .entry))))) (now (out .entry)) ⌝ }
 {

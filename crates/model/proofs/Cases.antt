@@ -2,7 +2,7 @@
 -- every list of points is tested on the enumeration of all of them. Assumes nothing.
 use Prim.Native.Nat.{ℕ, zero, suc, _<_, _≤_}
 use mathlib.Core.Path.{_≡_, refl, sym, ap, _∙_}
-use mathlib.Core.Bool.{Bool, true, false, not, _&&_, _||_, Bool·beq, false≢true}
+use mathlib.Core.Bool.{Bool, true, false, not, _&&_, _||_, Bool·beq, false≢true, and-eq-true-iff}
 use mathlib.Core.Logic.{_⊎_, inl, inr, by-cases}
 use mathlib.Core.List.{List, [], _∷_, List·Memᴰ, List·Memᴰ·head, List·Memᴰ·tail}
 use native.Mathlib.Omega.{arith}
@@ -30,7 +30,7 @@ use Rattle.model.specs.declared.Verdict.{Verdict}
 use Rattle.model.specs.declared.Verdict.the-variants.{Accepted, Refused}
 use Rattle.model.proofs.Verdicts.{is-accepted}
 use Rattle.model.proofs.LineStates.{lies-on, lies-nowhere}
-use Rattle.model.proofs.Lists.{and-split, same-list, list-same, enumerated}
+use Rattle.model.proofs.Lists.{same-list, list-same, enumerated}
 use Rattle.model.proofs.Order.{one-first}
 
 -- the tests
@@ -111,20 +111,20 @@ agree : (n : ℕ) (s d : Lines) → agreeBelow n s d ≡ true → (c : ℕ) → 
 unfolding agreeBelow
 agree zero s d h c l = absurd (omega arith)
 agree (suc n) s d h c l =
-    let both = and-split (Bool·beq (s n) (d n)) (agreeBelow n s d) h in
+    let both = and-eq-true-iff (Bool·beq (s n) (d n)) (agreeBelow n s d) .0 h in
     by-cases (ℕ-discrete c n) (λ e. rw e (same-bool (s n) (d n) (both .0))) (λ e. agree n s d (both .1) c (omega arith))
 
 on-listed : (q : List ℕ → Bool) (pss : List (List ℕ)) → everyList q pss ≡ true → (ps : List ℕ) → among ps pss ≡ true → q ps ≡ true
 unfolding everyList among
 on-listed q [] h ps m = absurd (false≢true m)
 on-listed q (qs ∷ qss) h ps m =
-    let both = and-split (q qs) (everyList q qss) h in
+    let both = and-eq-true-iff (q qs) (everyList q qss) .0 h in
     or-cases (sameList ps qs) (among ps qss) m (λ e. rw (same-list ps qs e) (both .0)) (λ m′. on-listed q qss (both .1) ps m′)
 
 on-all : (t : Task) (q : List ℕ → Bool) → onAll t q ≡ true → (ps : List ℕ) → wellFormed (blockCount t) ps ≡ true → q ps ≡ true
 unfolding onAll
 on-all t q h ps w =
-    let both = and-split (ltb 0 (blockCount t)) (everyList q (allLists (blockCount t))) h in
+    let both = and-eq-true-iff (ltb 0 (blockCount t)) (everyList q (allLists (blockCount t))) .0 h in
     on-listed q (allLists (blockCount t)) (both .1) ps (enumerated (blockCount t) (ltb-true 0 _ (both .0)) ps ∙ w)
 
 exact : (t : Task) (q : List ℕ → Bool) (pss : List (List ℕ)) → exactly t q pss ≡ true
@@ -133,7 +133,7 @@ unfolding exactly
 exact t q pss h ps = go (wellFormed (blockCount t) ps) refl (among ps pss) refl
   where
     both : (everyList (wellFormed (blockCount t)) pss ≡ true) × (onAll t (λ ps. Bool·beq (q ps) (among ps pss)) ≡ true)
-    both = and-split (everyList (wellFormed (blockCount t)) pss) (onAll t (λ ps. Bool·beq (q ps) (among ps pss))) h
+    both = and-eq-true-iff (everyList (wellFormed (blockCount t)) pss) (onAll t (λ ps. Bool·beq (q ps) (among ps pss))) .0 h
 
     go : (w : Bool) → wellFormed (blockCount t) ps ≡ w → (m : Bool) → among ps pss ≡ m → (w && q ps) ≡ m
     go true e m f = same-bool (q ps) (among ps pss) (on-all t (λ ps. Bool·beq (q ps) (among ps pss)) (both .1) ps e) ∙ f
@@ -153,8 +153,8 @@ module _ (t : Task) (p : ℕ) (pss : List (List ℕ)) (e : everyList (λ ps. eqb
 
   parts : (ps : List ℕ) → among ps pss ≡ true → (wellFormed (blockCount t) ps ≡ true) × (fits t ps ≡ true)
   parts ps m =
-      let two = and-split (wellFormed (blockCount t) ps) (fits t ps && leb (cost t ps) p) (x ps ∙ m) in
-      (two .0, and-split (fits t ps) (leb (cost t ps) p) (two .1) .0)
+      let two = and-eq-true-iff (wellFormed (blockCount t) ps) (fits t ps && leb (cost t ps) p) .0 (x ps ∙ m) in
+      (two .0, and-eq-true-iff (fits t ps) (leb (cost t ps) p) .0 (two .1) .0)
 
   within : (ps : List ℕ) → wellFormed (blockCount t) ps ≡ true → fits t ps ≡ true → cost t ps ≤ p → among ps pss ≡ true
   within ps w f l = sym (x ps) ∙ simp (w, f, le-leb (cost t ps) p l)
@@ -184,7 +184,7 @@ module _ (t : Task) (ps : List ℕ) (w : wellFormed (blockCount t) ps ≡ true) 
       (λ h.
       or-cases lower tie h (λ l. less (ltb-true (cost t ps) (cost t qs) l))
       (λ e.
-      let both = and-split (eqb (cost t qs) (cost t ps)) (sameList ps qs || before ps qs) e in
+      let both = and-eq-true-iff (eqb (cost t qs) (cost t ps)) (sameList ps qs || before ps qs) .0 e in
       same (eqb-true (cost t qs) (cost t ps) (both .0)) (both .1)))
 
   is-first : FirstBest t ps
@@ -206,7 +206,7 @@ is-refused : (n i : ℕ) (v : Verdict) → refusedBy n i v ≡ true → RefusedB
 unfolding refusedBy
 is-refused n i Accepted h = absurd (false≢true h)
 is-refused n i (Refused r) h =
-    let both = and-split (eqb (number r) n) (eqb (place r) i) h in
+    let both = and-eq-true-iff (eqb (number r) n) (eqb (place r) i) .0 h in
     (r, refl, eqb-true (number r) n (both .0), eqb-true (place r) i (both .1))
 
 same-next : (m n : Next) → sameNext m n ≡ true → m ≡ n
@@ -227,33 +227,33 @@ sound : (c : Case) → test c ≡ true → CaseHolds c
 unfolding test onLine
 sound (usefulAre t k ds) h = agree 512 (useful t k) (listed ds) h
 sound (nextIs t c k n l) h =
-    let both = and-split (sameNext (asNext (nextRead t k c)) n) (eqb (readsLookedAt t k c) l) h in
+    let both = and-eq-true-iff (sameNext (asNext (nextRead t k c)) n) (eqb (readsLookedAt t k c) l) .0 h in
     (same-next (asNext (nextRead t k c)) n (both .0), eqb-true (readsLookedAt t k c) l (both .1))
 sound (evictedAre t ds) h = agree 512 (evicted t) (listed ds) h
 sound (loadedAre t a b ds) h = agree 512 (loaded t a b) (listed ds) h
 sound (lengthIs t a b l) h = eqb-true (regionLength t a b) l h
 sound (bestAre t p pss) h =
-    let three = and-split (some pss && everyList (λ ps. eqb (cost t ps) p) pss) (exactly t (λ ps. fits t ps && leb (cost t ps) p) pss) h in
-    let two = and-split (some pss) (everyList (λ ps. eqb (cost t ps) p) pss) (three .0) in
+    let three = and-eq-true-iff (some pss && everyList (λ ps. eqb (cost t ps) p) pss) (exactly t (λ ps. fits t ps && leb (cost t ps) p) pss) .0 h in
+    let two = and-eq-true-iff (some pss) (everyList (λ ps. eqb (cost t ps) p) pss) .0 (three .0) in
     best t p pss (two .1) (exact t (λ ps. fits t ps && leb (cost t ps) p) pss (three .1)) (two .0)
 sound (firstIs t ps) h =
-    let three = and-split (wellFormed (blockCount t) ps && fits t ps) (onAll t (ahead t ps)) h in
-    let two = and-split (wellFormed (blockCount t) ps) (fits t ps) (three .0) in
+    let three = and-eq-true-iff (wellFormed (blockCount t) ps && fits t ps) (onAll t (ahead t ps)) .0 h in
+    let two = and-eq-true-iff (wellFormed (blockCount t) ps) (fits t ps) .0 (three .0) in
     (is-first t ps (two .0) (two .1) (three .1), gives t ps (two .0) (two .1) (three .1))
 sound (fittingAre t pss) h = exact t (fits t) pss h
 sound (noneFits t n i) h =
-    let both = and-split (onAll t (λ ps. not (fits t ps))) (refusedBy n i (Refused NoPlacement)) h in
+    let both = and-eq-true-iff (onAll t (λ ps. not (fits t ps))) (refusedBy n i (Refused NoPlacement)) .0 h in
     let none : NoPlacementFits t = λ ps w f. false≢true (sym (not-true (fits t ps) (on-all t (λ ps. not (fits t ps)) (both .0) ps w)) ∙ f) in
     (none, λ v p planned. rw (planned .exactly none) (is-refused n i (Refused NoPlacement) (both .1)))
 sound (priced t ps l p) h =
-    let three = and-split (accepted (pricing t ps) && eqb (lines t ps) l) (eqb (cost t ps) p) h in
-    let two = and-split (accepted (pricing t ps)) (eqb (lines t ps) l) (three .0) in
+    let three = and-eq-true-iff (accepted (pricing t ps) && eqb (lines t ps) l) (eqb (cost t ps) p) .0 h in
+    let two = and-eq-true-iff (accepted (pricing t ps)) (eqb (lines t ps) l) .0 (three .0) in
     (is-accepted (pricing t ps) (two .0), eqb-true (lines t ps) l (two .1), eqb-true (cost t ps) p (three .1))
 sound (refused t ps n i) h = is-refused n i (pricing t ps) h
 sound (lineIs t m c) h = lies-on t m c (same-mapping (lineOf t m) (Cached c) h)
 sound (onNoLine t m) h = lies-nowhere t m (same-mapping (lineOf t m) Uncached h)
 sound (replayed t ps a b) h =
-    let both = and-split (eqb (missesAlone t) a) (eqb (missesWith t ps) b) h in
+    let both = and-eq-true-iff (eqb (missesAlone t) a) (eqb (missesWith t ps) b) .0 h in
     (eqb-true (missesAlone t) a (both .0), eqb-true (missesWith t ps) b (both .1))
 
 all-pass : everyCase cases ≡ true
@@ -262,8 +262,8 @@ all-pass = refl
 
 held : (cs : List Case) → everyCase cs ≡ true → (c : Case) → List·Memᴰ c cs → CaseHolds c
 unfolding everyCase
-held (d ∷ ds) h c (List·Memᴰ·head e) = rw e (sound d (and-split (test d) (everyCase ds) h .0))
-held (d ∷ ds) h c (List·Memᴰ·tail m) = held ds (and-split (test d) (everyCase ds) h .1) c m
+held (d ∷ ds) h c (List·Memᴰ·head e) = rw e (sound d (and-eq-true-iff (test d) (everyCase ds) .0 h .0))
+held (d ∷ ds) h c (List·Memᴰ·tail m) = held ds (and-eq-true-iff (test d) (everyCase ds) .0 h .1) c m
 
 pub cases-hold : CasesHold
 cases-hold = held cases all-pass

@@ -4,6 +4,7 @@ pub mod LineStates
 pub mod ReadOrder
 pub mod Verdicts
 pub mod Lists
+pub mod Lowest
 pub mod Order
 pub mod Regions
 pub mod Places

@@ -2,7 +2,7 @@
 -- Assumes nothing.
 use Prim.Native.Nat.{ℕ, zero, suc, _+_, _-_, _<_}
 use mathlib.Core.Path.{_≡_, refl, sym, ap, ap₂, _∙_}
-use mathlib.Core.Bool.{Bool, true, false, cond, _&&_, _||_, and-assoc, or-assoc, or-false, and-false, false≢true}
+use mathlib.Core.Bool.{Bool, true, false, cond, _&&_, _||_, and-assoc, or-assoc, or-false, and-false, false≢true, and-eq-true-iff}
 use mathlib.Core.Logic.{_↔_}
 use mathlib.Core.List.{List, [], _∷_, _++_, map}
 use native.Mathlib.Omega.{arith}
@@ -14,10 +14,6 @@ use Rattle.model.specs.Lists.{Region, steps, every, rightPoint, sameList
 use Rattle.model.specs.Laws.{Enumerated}
 use Rattle.model.specs.declared.Place.the-variants.{Nowhere, At}
 
-pub and-split : (a b : Bool) → (a && b) ≡ true → (a ≡ true) × (b ≡ true)
-and-split true b h = (refl, h)
-and-split false b h = absurd (false≢true h)
-
 and-or : (a b c : Bool) → (a && b || a && c) ≡ (a && (b || c))
 and-or true b c = refl
 and-or false b c = refl
@@ -28,7 +24,7 @@ same-list [] [] h = refl
 same-list [] (q ∷ qs) h = absurd (false≢true h)
 same-list (p ∷ ps) [] h = absurd (false≢true h)
 same-list (p ∷ ps) (q ∷ qs) h =
-    let both = and-split (eqb p q) (sameList ps qs) h in
+    let both = and-eq-true-iff (eqb p q) (sameList ps qs) .0 h in
     ap₂ _∷_ (eqb-true p q (both .0)) (same-list ps qs (both .1))
 
 pub list-same : (ps : List ℕ) → sameList ps ps ≡ true
@@ -103,7 +99,7 @@ pub lowest-none : (f : ℕ → ℕ → Bool) (i : ℕ) (rs : List Region) → ev
 unfolding every lowest
 lowest-none f i [] h = refl
 lowest-none f i (r ∷ rs) h =
-    let both = and-split (f (r .from) (r .to)) (every f rs) h in
+    let both = and-eq-true-iff (f (r .from) (r .to)) (every f rs) .0 h in
     rw (both .0) (lowest-none f (suc i) rs (both .1))
 
 pub none-lowest : (f : ℕ → ℕ → Bool) (i : ℕ) (rs : List Region) → lowest f i rs ≡ Nowhere → every f rs ≡ true
@@ -122,14 +118,14 @@ pub rising-short : (n a : ℕ) (ps : List ℕ) → a < n → every (rightPoint n
 unfolding every steps
 rising-short n a [] h e = omega arith
 rising-short n a (p ∷ ps) h e =
-    let both = and-split (rightPoint n a p) (every (rightPoint n) (steps p ps)) e in
-    let right = and-split (ltb a p) (ltb p n) (both .0) in
+    let both = and-eq-true-iff (rightPoint n a p) (every (rightPoint n) (steps p ps)) .0 e in
+    let right = and-eq-true-iff (ltb a p) (ltb p n) .0 (both .0) in
     omega (arith, ltb-true a p (right .0), rising-short n p ps (ltb-true p n (right .1)) (both .1))
 
 pub point-right : (n a : ℕ) (ps : List ℕ) (i : ℕ) → every (rightPoint n) (steps a ps) ≡ true → i < length ps
     → rightPoint n (getD (a ∷ ps) i 0) (getD ps i 0) ≡ true
 unfolding every steps
 point-right n a [] i e h = absurd (omega arith)
-point-right n a (p ∷ ps) zero e h = and-split (rightPoint n a p) (every (rightPoint n) (steps p ps)) e .0
+point-right n a (p ∷ ps) zero e h = and-eq-true-iff (rightPoint n a p) (every (rightPoint n) (steps p ps)) .0 e .0
 point-right n a (p ∷ ps) (suc i) e h =
-    point-right n p ps i (and-split (rightPoint n a p) (every (rightPoint n) (steps p ps)) e .1) (omega arith)
+    point-right n p ps i (and-eq-true-iff (rightPoint n a p) (every (rightPoint n) (steps p ps)) .0 e .1) (omega arith)

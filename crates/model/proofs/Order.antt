@@ -2,7 +2,7 @@
 -- Assumes nothing.
 use Prim.Native.Nat.{ℕ, _<_}
 use mathlib.Core.Path.{_≡_, refl, sym, ap, ap₂, _∙_}
-use mathlib.Core.Bool.{Bool, true, false, _&&_, _||_, or-true, false≢true}
+use mathlib.Core.Bool.{Bool, true, false, _&&_, _||_, or-true, false≢true, and-eq-true-iff}
 use mathlib.Core.Logic.{_⊎_, inl, inr, ⊎-elim, by-cases}
 use mathlib.Core.List.{List, [], _∷_, List-discrete}
 use native.Mathlib.Omega.{arith}
@@ -17,7 +17,6 @@ use Rattle.model.specs.Planning.{chosen, planFor}
 use Rattle.model.specs.Laws.{BeforeIrreflexive, BeforeTransitive, BeforeTotal, OneFirst, OnePlan}
 use Rattle.model.specs.declared.Refusal.the-variants.{NoPlacement}
 use Rattle.model.specs.declared.Verdict.the-variants.{Accepted, Refused}
-use Rattle.model.proofs.Lists.{and-split}
 
 pub three-ways : (p q : ℕ) → (p < q) ⊎ ((p ≡ q) ⊎ (q < p))
 three-ways p q = by-cases (decLt p q) (λ l. inl l) (λ l. inr (by-cases (decLt q p) (λ m. inr m) (λ m. inl (omega arith))))
@@ -42,7 +41,7 @@ before-cases p q ps qs h = go (ltb p q) refl h
   where
     go : (b : Bool) → ltb p q ≡ b → (b || eqb p q && before ps qs) ≡ true → (p < q) ⊎ ((p ≡ q) × (before ps qs ≡ true))
     go true e h = inl (ltb-true p q e)
-    go false e h = let both = and-split (eqb p q) (before ps qs) h in inr (eqb-true p q (both .0), both .1)
+    go false e h = let both = and-eq-true-iff (eqb p q) (before ps qs) .0 h in inr (eqb-true p q (both .0), both .1)
 
 pub before-irreflexive : BeforeIrreflexive
 unfolding before

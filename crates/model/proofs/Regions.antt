@@ -2,7 +2,7 @@
 -- Assumes nothing.
 use Prim.Native.Nat.{ℕ, zero, suc, _+_, _-_, _*_, _≤_}
 use mathlib.Core.Path.{_≡_, refl, sym, ap, _∙_}
-use mathlib.Core.Bool.{true, false, _&&_}
+use mathlib.Core.Bool.{true, false, _&&_, and-eq-true-iff}
 use mathlib.Core.List.{List, [], _∷_}
 use native.Mathlib.Nat.{le-refl, lt-of-lt-of-le, add-zero, add-suc, mul-zero, mul-add, mul-le-mul}
 use native.Mathlib.Omega.{arith}
@@ -21,7 +21,7 @@ use Rattle.model.specs.declared.Place.the-variants.{Nowhere, At}
 use Rattle.model.specs.declared.Refusal.the-variants.{Argument, AboveLimit}
 use Rattle.model.specs.declared.Verdict.the-variants.{Accepted}
 use Rattle.model.proofs.Digits.{count-le, count-within}
-use Rattle.model.proofs.Lists.{and-split, lowest-none, none-lowest}
+use Rattle.model.proofs.Lists.{lowest-none, none-lowest}
 
 scaled : (t : Task) (rs : List Region) → total (regionCost t) rs ≡ t .reload * total (regionLines t) rs
 unfolding total regionCost
@@ -78,7 +78,7 @@ module _ (t : Task) (a b c : ℕ) (h : b ≤ c) where
   loaded-grows : (d : ℕ) → loaded t a b d ≡ true → loaded t a c d ≡ true
   unfolding loaded
   loaded-grows d e =
-      let both = and-split (useful t a d && evicted t d) _ e in
+      let both = and-eq-true-iff (useful t a d && evicted t d) _ .0 e in
       rw (both .0, more, union-grows _ a (b - a) (c - a - (b - a)) d (both .1))
 
   length-grows : regionLength t a b ≤ regionLength t a c

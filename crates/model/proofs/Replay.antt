@@ -4,7 +4,7 @@
 -- point H is emptied again, whatever was read since. Assumes nothing.
 use Prim.Native.Nat.{ℕ, zero, suc, _+_, _-_, _%_, _≤_, _<_, zero-le}
 use mathlib.Core.Path.{_≡_, refl, sym, ap, _∙_, fun-ext}
-use mathlib.Core.Bool.{Bool, true, false, not, cond, _&&_, and-true, and-false, and-comm}
+use mathlib.Core.Bool.{Bool, true, false, not, cond, _&&_, and-true, and-false, and-comm, and-eq-true-iff}
 use mathlib.Core.List.{List, [], _∷_, _++_, append-nil}
 use native.Mathlib.Nat.{le-refl, mod-lt, zero-add, add-zero, add-suc, add-assoc}
 use native.Mathlib.Omega.{arith}
@@ -25,7 +25,6 @@ use Rattle.model.specs.declared.Mapping.the-variants.{Uncached, Cached}
 use Rattle.model.proofs.Digits.{count-agree, count-none, count-one, count-sum}
 use Rattle.model.proofs.LineStates.{any-append, first-none, first-append, never-empty}
 use Rattle.model.proofs.ReadOrder.{reads-append}
-use Rattle.model.proofs.Lists.{and-split}
 
 -- one line at a read of m, in a cache where it is l and in one that may have lost it: what the second one's miss adds now and is to add later.
 -- f is the line's next read after this one
@@ -42,13 +41,13 @@ one-line true true l f m = go (sameBlock l (Held m))
     go false = refl
 
 -- no rising list that starts after a has a point up to a
-pub none-before : (n a : ℕ) (qs : List ℕ) (j : ℕ) → every (rightPoint n) (steps a qs) ≡ true → j ≤ a → listed qs j ≡ false
+pub none-listed : (n a : ℕ) (qs : List ℕ) (j : ℕ) → every (rightPoint n) (steps a qs) ≡ true → j ≤ a → listed qs j ≡ false
 unfolding every steps listed
-none-before n a [] j w l = refl
-none-before n a (q ∷ qs) j w l =
-    let both = and-split (rightPoint n a q) (every (rightPoint n) (steps q qs)) w in
-    let above : a < q = ltb-true a q (and-split (ltb a q) (ltb q n) (both .0) .0) in
-    rw (ne-eqb q j (λ e. omega arith), none-before n q qs j (both .1) (omega arith))
+none-listed n a [] j w l = refl
+none-listed n a (q ∷ qs) j w l =
+    let both = and-eq-true-iff (rightPoint n a q) (every (rightPoint n) (steps q qs)) .0 w in
+    let above : a < q = ltb-true a q (and-eq-true-iff (ltb a q) (ltb q n) .0 (both .0) .0) in
+    rw (ne-eqb q j (λ e. omega arith), none-listed n q qs j (both .1) (omega arith))
 
 module _ (t : Task) where
   misses-append : (s : Cache) (xs ys : List ℕ) → misses t s (xs ++ ys) ≡ misses t s xs + misses t (after t s xs) ys
@@ -217,14 +216,14 @@ module _ (t : Task) where
         let whole : between a (blockCount t) ≡ drop a (t .blocks) = take-all (blockCount t - a) (drop a (t .blocks)) (omega (arith, length-drop a (t .blocks))) in
         rw (quiet ps (emptied (evicted t) (cacheAt a)) a (drop a (t .blocks)) h, ← whole, region-misses a (blockCount t) l (le-refl (blockCount t)), add-zero)
     from-edge ps (q ∷ qs) a l w h =
-        let both = and-split (rightPoint (blockCount t) a q) (every (rightPoint (blockCount t)) (steps q qs)) w in
-        let right = and-split (ltb a q) (ltb q (blockCount t)) (both .0) in
+        let both = and-eq-true-iff (rightPoint (blockCount t) a q) (every (rightPoint (blockCount t)) (steps q qs)) .0 w in
+        let right = and-eq-true-iff (ltb a q) (ltb q (blockCount t)) .0 (both .0) in
         let above : a < q = ltb-true a q (right .0) in
         let below : q < blockCount t = ltb-true q (blockCount t) (right .1) in
         let sized = length-take-le (q - a) (drop a (t .blocks)) (omega (arith, length-drop a (t .blocks))) in
         let here : listed ps q ≡ true = h q above ∙ rw (eq-eqb q q refl) refl in
         let next : (j : ℕ) → a < j → j < q → listed ps j ≡ false =
-        λ j u v. h j u ∙ rw (ne-eqb q j (λ e. omega arith), none-before (blockCount t) q qs j (both .1) (omega arith)) refl in
+        λ j u v. h j u ∙ rw (ne-eqb q j (λ e. omega arith), none-listed (blockCount t) q qs j (both .1) (omega arith)) refl in
         let ih = from-edge ps qs q (omega arith) (both .1) (λ j u. h j (omega arith) ∙ rw (ne-eqb q j (λ e. omega arith)) refl) in
         rw (
           rest-at a q (omega arith),

@@ -2,7 +2,7 @@
 -- Assumes nothing.
 use Prim.Native.Nat.{ℕ}
 use mathlib.Core.Path.{_≡_, refl, sym}
-use mathlib.Core.Bool.{true, false≢true}
+use mathlib.Core.Bool.{Bool, true, false, cond, false≢true}
 use native.Mathlib.Omega.{arith}
 use Rattle.model.specs.Answers.{accepted, andThen}
 use Rattle.model.specs.declared.Refusal.{Refusal}
@@ -25,3 +25,8 @@ pub before-refused : (u v w : Verdict) (x : Refusal) → andThen u v ≡ Refused
 before-refused Accepted Accepted w x e = absurd (never-both e)
 before-refused Accepted (Refused y) w x e = e
 before-refused (Refused y) v w x e = e
+
+-- a row accepts where its test holds
+pub row-holds : (r : Refusal) (b : Bool) → cond b Accepted (Refused r) ≡ Accepted → b ≡ true
+row-holds r true e = refl
+row-holds r false e = absurd (never-both (sym e))

@@ -39,6 +39,11 @@ unfoldable pub lowest : (ℕ → ℕ → Bool) → ℕ → List Region → Place
 lowest f i [] = Nowhere
 lowest f i (r ∷ rs) = cond (f (r .from) (r .to)) (lowest f (suc i) rs) (At i)
 
+-- the lowest k, of the n from a, at which f does not hold
+unfoldable pub lowestFrom : (ℕ → Bool) → ℕ → ℕ → Place
+lowestFrom f a zero = Nowhere
+lowestFrom f a (suc n) = cond (f a) (lowestFrom f (suc a) n) (At a)
+
 -- a point p after the point a (0 for the first) is above it and below n
 abbrev pub rightPoint : ℕ → ℕ → ℕ → Bool
 rightPoint n a p = ltb a p && ltb p n

@@ -2,7 +2,7 @@
 -- Assumes nothing.
 use Prim.Native.Nat.{ℕ, _+_, _-_, _*_, _^_, _<_, _≤_}
 use mathlib.Core.Path.{_≡_, refl, sym}
-use mathlib.Core.Bool.{Bool, true, false, cond}
+use mathlib.Core.Bool.{Bool, true, false, cond, and-eq-true-iff}
 use mathlib.Core.List.{List, _++_}
 use native.Mathlib.Omega.{arith}
 use lib.Dec.{eqb}
@@ -16,14 +16,14 @@ use Rattle.model.specs.declared.Plan.{Plan}
 use Rattle.model.specs.declared.Refusal.the-variants.{Length, Checksum, WrongBlock, Output}
 use Rattle.model.specs.declared.Verdict.the-variants.{Accepted, Refused}
 use Rattle.model.proofs.Verdicts.{never-both, is-accepted}
-use Rattle.model.proofs.Lists.{and-split}
 use Rattle.block.specs.Bytes.{le, packed, field, fields, Each}
 use Rattle.block.specs.Blocks.{numbered, checksumRight, bodyRight}
 use Rattle.block.proofs.Bytes.{length-fields}
 use Rattle.block.proofs.Each.{each-of}
 use Rattle.block.proofs.Packing.{numberAt}
-use Rattle.block.proofs.Blocks.{length-numbered, length-sealed, numbers-back, list-back, checksum-sealed, body-sealed, block-is, lowest-nowhere}
-use Rattle.planvalue.specs.Values.{entryRight, planVerdict}
+use Rattle.model.proofs.Lowest.{lowest-nowhere}
+use Rattle.block.proofs.Blocks.{length-numbered, length-sealed, numbers-back, list-back, checksum-sealed, body-sealed, block-is}
+use Rattle.planvalue.specs.Values.{pointRight, planVerdict}
 use Rattle.planvalue.proofs.Verdicts.{accepted-parts, count-accepted}
 use Rattle.planblock.specs.Plans.{planNumbers, planNamed, planBytes, planOf, planRight, readVerdict, storeVerdict, stored, PlanFits}
 use Rattle.planblock.specs.Statements.{StoredReads, ReadStores}
@@ -45,12 +45,12 @@ module _ (p : Plan) (f : PlanFits p) (e : planVerdict p ≡ Accepted) where
 
   -- the entries from the count on are zero
   zeros : drop (p .count) (p .points) ≡ replicate (64 - p .count) 0
-  unfolding entryRight
+  unfolding pointRight
   zeros =
       let long : length (drop (p .count) (p .points)) ≡ 64 - p .count = rw (length-drop, f .entries) in
       ext-getD 0 (drop (p .count) (p .points)) (replicate (64 - p .count) 0) (rw (long, length-replicate))
       (λ i h.
-      let right = lowest-nowhere (entryRight p) 0 64 (accepted-parts p e .1) (p .count + i) (omega arith) (omega arith) in
+      let right = lowest-nowhere (pointRight p) 0 64 (accepted-parts p e .1) (p .count + i) (omega arith) (omega arith) in
       rw (getD-drop, getD-replicate {A = ℕ} (64 - p .count) i 0 0 (omega arith)) (eqb-true _ 0 (rw (le-ltb (p .count + i) (p .count) (omega arith)) at right)))
 
   numbers-read : field (planBytes p) ≡ (λ i v. numberAt 0 (planNumbers p) i v (field (planBytes p) i v))
@@ -96,7 +96,7 @@ pub store-back : (bs : List ℕ) → readVerdict bs ≡ Accepted → (planVerdic
 unfolding planRight planBytes
 store-back bs e =
     let parts = read-parts bs e in
-    let right = and-split (accepted (planVerdict (planOf bs))) (bodyRight 0 (planNamed (planOf bs)) bs) (parts .1) in
+    let right = and-eq-true-iff (accepted (planVerdict (planOf bs))) (bodyRight 0 (planNamed (planOf bs)) bs) .0 (parts .1) in
     (is-accepted (planVerdict (planOf bs)) (right .0), sym (block-is 0 (planNamed (planOf bs)) bs (parts .0) (right .1)))
 
 -- the points of a block's plan are followed by zeros

@@ -136,7 +136,7 @@ fn plan_of(bytes: &[u8]) -> Plan
 }
 
 // What is answered where no plan is read.
-fn no_plan(refusal: Refusal) -> PlanRead
+fn refused_read(refusal: Refusal) -> PlanRead
     ensures { λ r. ⌜ (r .verdict ≡ Verdict.Refused refusal) × (r .plan ≡ noPlan) ⌝ }
 {
     PlanRead {
@@ -165,17 +165,17 @@ pub fn read(bytes: &[u8]) -> PlanRead
     ensures { λ r. ⌜ r .plan ≡ onAccepted (readVerdict (now (bytes .entry))) (planOf (now (bytes .entry))) noPlan ⌝ }
 {
     if bytes.len() != 512 {
-        return no_plan(Refusal::Length);
+        return refused_read(Refusal::Length);
     }
     if !block::checksum_right(bytes) {
-        return no_plan(Refusal::Checksum(0));
+        return refused_read(Refusal::Checksum(0));
     }
     if 63 < block::u16_at(bytes, 4) {
-        return no_plan(Refusal::WrongBlock(0));
+        return refused_read(Refusal::WrongBlock(0));
     }
     let plan = plan_of(bytes);
     if !plan_right(bytes, plan) {
-        return no_plan(Refusal::WrongBlock(0));
+        return refused_read(Refusal::WrongBlock(0));
     }
     PlanRead {
         verdict: Verdict::Accepted,

@@ -19,7 +19,7 @@ use Rattle.model.specs.declared.Refusal.the-variants.{Argument}
 use Rattle.model.specs.declared.Verdict.{Verdict}
 use Rattle.model.specs.declared.Verdict.the-variants.{Accepted, Refused}
 use Rattle.model.specs.declared.Plan.{Plan}
-use Rattle.taskfile.specs.File.{verdict, taskOf}
+use Rattle.taskfile.specs.File.{IsAccepted, verdict, taskOf}
 use Rattle.planblock.specs.Plans.{readVerdict, planOf}
 
 -- the words of a set that a refusal carries
@@ -78,4 +78,4 @@ blockPlan file block = onAccepted (blockVerdict file block) (planFor (taskOf fil
 -- planning: the file's refusal, or what planning answers for its task
 pub record PlanAnswer (file : List ℕ) (v : Verdict) (p : Plan) : Type 0 where
   pub refused : (x : Refusal) → verdict file ≡ Refused x → (v ≡ Refused x) × (p ≡ noPlan)
-  pub planned : verdict file ≡ Accepted → Planned (taskOf file) v p
+  pub planned : IsAccepted file → Planned (taskOf file) v p

@@ -197,7 +197,7 @@ pub fn plan(file: &[u8]) -> FilePlan
 {
     let checked = taskfile::check(file);
     let Verdict::Accepted = checked else {
-        return planning::no_plan(checked);
+        return planning::refused_plan(checked);
     };
     planning::least_plan(file)
 }

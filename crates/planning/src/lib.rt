@@ -5,7 +5,7 @@ ghost use Prim.Native.Nat.{_-_, _<_, _≤_};
 ghost use Rattle.model.specs.Task.{blockCount};
 ghost use Rattle.model.specs.Answers.{onAccepted, pricing};
 ghost use Rattle.model.specs.Planning.{chosen, planFor, noPlan, Planned};
-ghost use Rattle.taskfile.specs.File.{verdict, taskOf};
+ghost use Rattle.taskfile.specs.File.{IsAccepted, taskOf};
 ghost use Rattle.reuse.specs.Ready.{Ready};
 use model::Plan;
 use model::Refusal;
@@ -20,7 +20,7 @@ pub struct FilePlan {
 
 // The plan of the points that a plan holds.
 pub fn price_points(file: &[u8], first: Plan) -> FilePlan
-    requires { ⌜ verdict (now file) ≡ Verdict.Accepted ⌝ }
+    requires { ⌜ IsAccepted (now file) ⌝ }
     requires { ⌜ (first .count ≤ 63) × (drop (first .count) (first .points) ≡ replicate (64 - first .count) 0) ⌝ }
     ensures { λ r. ⌜ (r .verdict ≡ pricing (taskOf (now (file .entry))) (chosen first)) × (r .plan ≡ onAccepted (pricing (taskOf (now (file .entry))) (chosen first)) (planFor (taskOf (now (file .entry))) (chosen first)) noPlan) ⌝ }
 {
@@ -29,7 +29,7 @@ pub fn price_points(file: &[u8], first: Plan) -> FilePlan
     let price = pricing::price_of(file, &points[..count]);
     let verdict = price.verdict;
     let Verdict::Accepted = verdict else {
-        return no_plan(verdict);
+        return refused_plan(verdict);
     };
     FilePlan {
         verdict,
@@ -39,7 +39,7 @@ pub fn price_points(file: &[u8], first: Plan) -> FilePlan
 
 // The plan of the first points, with their price; N and id are the file's.
 fn plan_of(file: &[u8], count: usize, points: [u16; 64], price: Price) -> Plan
-    requires { ⌜ (verdict (now file) ≡ Verdict.Accepted) × (count ≤ 63) × (price .lines < 65536) ⌝ }
+    requires { ⌜ IsAccepted (now file) × (count ≤ 63) × (price .lines < 65536) ⌝ }
     ensures { λ r. ⌜ r ≡ record { blocks = blockCount (taskOf (now (file .entry))); id = taskOf (now (file .entry)) .id; count = count; lines = price .lines; cost = price .cost; points = points } ⌝ }
 {
     let blocks = taskfile::block_count(file) as u16;
@@ -58,7 +58,7 @@ fn plan_of(file: &[u8], count: usize, points: [u16; 64], price: Price) -> Plan
 
 // The plan of the first of the fitting lists that cost least.
 pub fn least_plan(file: &[u8]) -> FilePlan
-    requires { ⌜ verdict (now file) ≡ Verdict.Accepted ⌝ }
+    requires { ⌜ IsAccepted (now file) ⌝ }
     ensures { λ r. ⌜ Planned (taskOf (now (file .entry))) (r .verdict) (r .plan) ⌝ }
 {
     let mut sets = [0u64; 1048];
@@ -77,7 +77,7 @@ fn plan_regions(file: &[u8], sets: &[u64; 1048]) -> FilePlan
     let count = placed.count;
     let points = placed.points;
     if !placed.found {
-        return no_plan(Verdict::Refused(Refusal::NoPlacement));
+        return refused_plan(Verdict::Refused(Refusal::NoPlacement));
     }
     let price = pricing::price_list(file, sets, &points[..count]);
     FilePlan {
@@ -87,7 +87,7 @@ fn plan_regions(file: &[u8], sets: &[u64; 1048]) -> FilePlan
 }
 
 // What is answered where no plan is.
-pub fn no_plan(verdict: Verdict) -> FilePlan
+pub fn refused_plan(verdict: Verdict) -> FilePlan
     ensures { λ r. ⌜ (r .verdict ≡ verdict) × (r .plan ≡ noPlan) ⌝ }
 {
     FilePlan {

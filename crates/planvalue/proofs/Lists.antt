@@ -15,8 +15,8 @@ use Rattle.model.specs.Lists.{wellFormed}
 use Rattle.model.specs.Planning.{planFor}
 use Rattle.model.specs.declared.Verdict.the-variants.{Accepted}
 use Rattle.model.proofs.Lists.{rising-short, point-right}
-use Rattle.block.proofs.Blocks.{nowhere-lowest}
-use Rattle.planvalue.specs.Values.{pointBefore, entryRight, planInRange, planVerdict}
+use Rattle.model.proofs.Lowest.{nowhere-lowest}
+use Rattle.planvalue.specs.Values.{pointBefore, pointRight, planInRange, planVerdict}
 
 module _ (t : Task) (ps : List ℕ) (least : 1 ≤ blockCount t) (most : blockCount t ≤ 64) (well : wellFormed (blockCount t) ps ≡ true) where
   abbrev points : List ℕ
@@ -30,16 +30,16 @@ module _ (t : Task) (ps : List ℕ) (least : 1 ≤ blockCount t) (most : blockCo
   before zero h = refl
   before (suc i) h = List·getD-append ps _ 0 i (omega arith)
 
-  entries : (i : ℕ) → i < 64 → entryRight (planFor t ps) i ≡ true
-  unfolding entryRight planFor
+  entries : (i : ℕ) → i < 64 → pointRight (planFor t ps) i ≡ true
+  unfolding pointRight planFor
   entries i h = by-cases (decLe (suc i) (length ps)) (λ l. point l) (λ l. beyond (omega arith))
     where
-      point : i < length ps → entryRight (planFor t ps) i ≡ true
+      point : i < length ps → pointRight (planFor t ps) i ≡ true
       point l =
           rw (lt-ltb i (length ps) l, before i l, List·getD-append ps (replicate (64 - length ps) 0) 0 i l)
           (point-right (blockCount t) 0 ps i well l)
 
-      beyond : length ps ≤ i → entryRight (planFor t ps) i ≡ true
+      beyond : length ps ≤ i → pointRight (planFor t ps) i ≡ true
       beyond l =
           let s : i ≡ length ps + (i - length ps) = omega arith in
           let zero : getD points i 0 ≡ 0 =
@@ -53,6 +53,6 @@ module _ (t : Task) (ps : List ℕ) (least : 1 ≤ blockCount t) (most : blockCo
         le-leb 1 (blockCount t) least,
         le-leb (blockCount t) 64 most,
         le-leb (length ps) 63 (omega (arith, short)),
-        nowhere-lowest (entryRight (planFor t ps)) 0 64 (λ i l m. entries i (omega arith)),
+        nowhere-lowest (pointRight (planFor t ps)) 0 64 (λ i l m. entries i (omega arith)),
       )
       refl

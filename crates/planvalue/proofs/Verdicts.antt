@@ -2,7 +2,7 @@
 -- Assumes nothing.
 use Prim.Native.Nat.{_≤_}
 use mathlib.Core.Path.{_≡_, refl, sym}
-use mathlib.Core.Bool.{Bool, true, false, cond, _&&_}
+use mathlib.Core.Bool.{Bool, true, false, cond, _&&_, and-eq-true-iff}
 use lib.Dec.{leb}
 use borrow.Author.Tests.{leb-true}
 use Rattle.model.specs.Answers.{refusedAt}
@@ -12,13 +12,12 @@ use Rattle.model.specs.declared.Plan.{Plan}
 use Rattle.model.specs.declared.Refusal.the-variants.{Argument}
 use Rattle.model.specs.declared.Verdict.the-variants.{Accepted, Refused}
 use Rattle.model.proofs.Verdicts.{never-both}
-use Rattle.model.proofs.Lists.{and-split}
-use Rattle.block.specs.Blocks.{lowestFrom}
-use Rattle.planvalue.specs.Values.{entryRight, planInRange, planVerdict}
+use Rattle.model.specs.Lists.{lowestFrom}
+use Rattle.planvalue.specs.Values.{pointRight, planInRange, planVerdict}
 
-pub accepted-parts : (p : Plan) → planVerdict p ≡ Accepted → (planInRange p ≡ true) × (lowestFrom (entryRight p) 0 64 ≡ Nowhere)
+pub accepted-parts : (p : Plan) → planVerdict p ≡ Accepted → (planInRange p ≡ true) × (lowestFrom (pointRight p) 0 64 ≡ Nowhere)
 unfolding planVerdict
-accepted-parts p e = go (planInRange p) (lowestFrom (entryRight p) 0 64) e
+accepted-parts p e = go (planInRange p) (lowestFrom (pointRight p) 0 64) e
   where
     go : (b : Bool) (k : Place) → cond b (refusedAt k Argument Accepted) (Refused (Argument 0)) ≡ Accepted → (b ≡ true) × (k ≡ Nowhere)
     go true Nowhere q = (refl, refl)
@@ -27,4 +26,4 @@ accepted-parts p e = go (planInRange p) (lowestFrom (entryRight p) 0 64) e
 
 pub count-accepted : (p : Plan) → planVerdict p ≡ Accepted → p .count ≤ 63
 unfolding planInRange
-count-accepted p e = leb-true (p .count) 63 (and-split (leb 1 (p .blocks) && leb (p .blocks) 64) (leb (p .count) 63) (accepted-parts p e .0) .1)
+count-accepted p e = leb-true (p .count) 63 (and-eq-true-iff (leb 1 (p .blocks) && leb (p .blocks) 64) (leb (p .count) 63) .0 (accepted-parts p e .0) .1)

@@ -4,13 +4,12 @@ use mathlib.Core.Bool.{Bool, cond, _&&_}
 use mathlib.Core.List.{List}
 use lib.Dec.{eqb, leb, ltb}
 use lib.ListN.{getD}
-use Rattle.model.specs.Lists.{rightPoint}
+use Rattle.model.specs.Lists.{lowestFrom, rightPoint}
 use Rattle.model.specs.Answers.{refusedAt}
 use Rattle.model.specs.declared.Plan.{Plan}
 use Rattle.model.specs.declared.Refusal.the-variants.{Argument}
 use Rattle.model.specs.declared.Verdict.{Verdict}
 use Rattle.model.specs.declared.Verdict.the-variants.{Accepted, Refused}
-use Rattle.block.specs.Blocks.{lowestFrom}
 
 -- the point before index i; 0 before the first
 unfoldable pub pointBefore : List ℕ → ℕ → ℕ
@@ -18,8 +17,8 @@ pointBefore ps zero = 0
 pointBefore ps (suc i) = getD ps i 0
 
 -- entry i of a plan: a right point below the count, and 0 from there on
-unfoldable pub entryRight : Plan → ℕ → Bool
-entryRight p i =
+unfoldable pub pointRight : Plan → ℕ → Bool
+pointRight p i =
     cond (ltb i (p .count)) (rightPoint (p .blocks) (pointBefore (p .points) i) (getD (p .points) i 0)) (eqb (getD (p .points) i 0) 0)
 
 -- N is 1 to 64 and the count at most 63
@@ -27,9 +26,9 @@ unfoldable pub planInRange : Plan → Bool
 planInRange p = leb 1 (p .blocks) && leb (p .blocks) 64 && leb (p .count) 63
 
 -- 7 at the lowest wrong entry
-abbrev pub entriesVerdict : Plan → Verdict
-entriesVerdict p = refusedAt (lowestFrom (entryRight p) 0 64) Argument Accepted
+abbrev pub pointsVerdict : Plan → Verdict
+pointsVerdict p = refusedAt (lowestFrom (pointRight p) 0 64) Argument Accepted
 
 -- can a plan be stored: 7 at 0 for N or the count, then for the entries
 unfoldable pub planVerdict : Plan → Verdict
-planVerdict p = cond (planInRange p) (entriesVerdict p) (Refused (Argument 0))
+planVerdict p = cond (planInRange p) (pointsVerdict p) (Refused (Argument 0))

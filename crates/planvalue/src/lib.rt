@@ -2,7 +2,7 @@
 ghost use mathlib.Core.Path.{_≡_};
 ghost use Prim.Native.Nat.{_<_};
 ghost use Rattle.model.specs.Lists.{rightPoint};
-ghost use Rattle.planvalue.specs.Values.{pointBefore, entryRight, entriesVerdict, planInRange, planVerdict};
+ghost use Rattle.planvalue.specs.Values.{pointBefore, pointRight, pointsVerdict, planInRange, planVerdict};
 use model::Plan;
 use model::Refusal;
 use model::Verdict;
@@ -26,9 +26,9 @@ fn point_before(points: [u16; 64], i: usize) -> u16
 }
 
 // Whether entry i of a plan is a right point below the count, or 0 from there on.
-fn entry_right(plan: Plan, i: usize) -> bool
+fn point_right(plan: Plan, i: usize) -> bool
     requires { ⌜ i < 64 ⌝ }
-    ensures { λ r. ⌜ r ≡ entryRight plan i ⌝ }
+    ensures { λ r. ⌜ r ≡ pointRight plan i ⌝ }
 {
     let points = plan.points;
     let count = plan.count as usize;
@@ -39,12 +39,12 @@ fn entry_right(plan: Plan, i: usize) -> bool
 }
 
 // The verdict on the entries: the lowest wrong one.
-fn check_entries(plan: Plan) -> Verdict
-    ensures { λ r. ⌜ r ≡ entriesVerdict plan ⌝ }
+fn check_points(plan: Plan) -> Verdict
+    ensures { λ r. ⌜ r ≡ pointsVerdict plan ⌝ }
 {
     let mut i = 0;
     while i < 64 {
-        if !entry_right(plan, i) {
+        if !point_right(plan, i) {
             return Verdict::Refused(Refusal::Argument(i));
         }
         i += 1;
@@ -72,5 +72,5 @@ pub fn check(plan: Plan) -> Verdict
     if !in_range(plan) {
         return Verdict::Refused(Refusal::Argument(0));
     }
-    check_entries(plan)
+    check_points(plan)
 }

@@ -2,7 +2,7 @@
 -- Assumes nothing.
 use Prim.Native.Nat.{ℕ, _+_, _≤_, _<_}
 use mathlib.Core.Path.{_≡_, refl, _∙_}
-use mathlib.Core.Bool.{Bool, true, false, cond, and-false}
+use mathlib.Core.Bool.{Bool, true, false, cond, and-false, and-eq-true-iff}
 use mathlib.Core.List.{List}
 use mathlib.Core.Logic.{_⊎_, ⊎-elim}
 use native.Mathlib.Numerals.{add-one}
@@ -14,7 +14,6 @@ use lib.Seq.{drop-cons}
 use Rattle.model.specs.Lists.{steps, lowest, rightPoint}
 use Rattle.model.specs.declared.Place.{Place}
 use Rattle.model.specs.declared.Place.the-variants.{Nowhere, At}
-use Rattle.model.proofs.Lists.{and-split}
 
 -- the lowest wrong point of the list from index i on, where last is the point before
 abbrev pub wrongFrom : ℕ → List ℕ → ℕ → ℕ → Place
@@ -41,7 +40,7 @@ module _ (n : ℕ) (ps : List ℕ) (i last d : ℕ) (h : i < length ps) where
       go : (b : Bool) → rightPoint n last (getD ps i d) ≡ b → cond b (wrongFrom n ps (i + 1) (getD ps i d)) (At i) ≡ Nowhere
           → (last < getD ps i d) × (getD ps i d < n) × (wrongFrom n ps (i + 1) (getD ps i d) ≡ Nowhere)
       go true r q =
-          let both = and-split (ltb last (getD ps i d)) (ltb (getD ps i d) n) r in
+          let both = and-eq-true-iff (ltb last (getD ps i d)) (ltb (getD ps i d) n) .0 r in
           (ltb-true _ _ (both .0), ltb-true _ _ (both .1), q)
       go false r q = let z : _≡_ {A = ℕ} 0 1 = cc in absurd (omega arith)
 

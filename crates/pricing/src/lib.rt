@@ -3,7 +3,7 @@ ghost use mathlib.Core.Path.{_≡_};
 ghost use lib.ListN.{getD};
 ghost use Rattle.model.specs.Task.{blockCount};
 ghost use Rattle.model.specs.Lists.{wrongPoint};
-ghost use Rattle.taskfile.specs.File.{verdict, taskOf};
+ghost use Rattle.taskfile.specs.File.{IsAccepted, taskOf};
 ghost use Rattle.reuse.specs.Ready.{Ready};
 ghost use Rattle.pricing.specs.Prices.{Prices};
 use model::Place;
@@ -19,7 +19,7 @@ pub struct Price {
 
 // The price of a list of points: 7 at its lowest wrong point, then 8 at its lowest region above the limit.
 pub fn price_of(file: &[u8], points: &[u16]) -> Price
-    requires { ⌜ verdict (now file) ≡ Verdict.Accepted ⌝ }
+    requires { ⌜ IsAccepted (now file) ⌝ }
     ensures { λ r. ⌜ Prices (taskOf (now (file .entry))) (now (points .entry)) r ⌝ }
 {
     let mut sets = [0u64; 1048];

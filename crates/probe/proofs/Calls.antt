@@ -2,7 +2,7 @@
 -- Assumes nothing.
 use Prim.Native.Nat.{ℕ, suc, _+_, _*_, _≤_}
 use mathlib.Core.Path.{_≡_, refl, sym, _∙_}
-use mathlib.Core.Bool.{Bool, true, false, cond, _&&_}
+use mathlib.Core.Bool.{Bool, true, false, cond, _&&_, and-eq-true-iff}
 use mathlib.Core.List.{List, [], _∷_, _++_, append-nil, append-assoc}
 use native.Mathlib.Omega.{arith}
 use lib.Dec.{eqb, leb, ltb}
@@ -15,7 +15,6 @@ use Rattle.model.specs.Answers.{verdictPlace, andThen, mostBlocks}
 use Rattle.model.specs.declared.Place.the-variants.{At}
 use Rattle.model.specs.declared.Refusal.the-variants.{Argument, Output, OutOfRange}
 use Rattle.model.specs.declared.Verdict.the-variants.{Accepted, Refused}
-use Rattle.model.proofs.Lists.{and-split}
 use Rattle.model.proofs.Places.{then-most, at-most, test-most}
 use Rattle.taskfile.specs.File.{verdict, taskOf, countsInRange}
 use Rattle.taskfile.proofs.Accepted.{few-blocks}
@@ -49,7 +48,7 @@ wrong-within n a i k (p ∷ ps) h e = go (rightPoint n a p) refl e (wrong-within
     go : (b : Bool) → rightPoint n a p ≡ b → cond b (lowest (rightPoint n) (suc i) (steps p ps)) (At i) ≡ At k
         → (p ≤ n → lowest (rightPoint n) (suc i) (steps p ps) ≡ At k → k + p ≤ suc i + n) → k + a ≤ i + n
     go true right q ih =
-        let both = and-split (ltb a p) (ltb p n) right in
+        let both = and-eq-true-iff (ltb a p) (ltb p n) .0 right in
         omega (arith, ltb-true a p (both .0), ih (omega (arith, ltb-true p n (both .1))) q)
     go false right q ih = let s : i ≡ k = cc in omega arith
 

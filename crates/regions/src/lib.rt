@@ -5,11 +5,10 @@ ghost use lib.ListN.{length, replicate};
 ghost use Rattle.model.specs.Task.{blockCount};
 ghost use Rattle.model.specs.Regions.{regionFits, regionCost};
 ghost use Rattle.placement.specs.Table.{none, Holds};
-ghost use Rattle.taskfile.specs.File.{verdict, taskOf};
+ghost use Rattle.taskfile.specs.File.{IsAccepted, taskOf};
 ghost use Rattle.reuse.specs.Ready.{Ready};
 ghost use Rattle.regions.specs.Measures.{Spans, Measures, NoneFrom, FilledRow};
 use lineset::LineSet;
-use model::Verdict;
 
 // A region's loaded lines and their number, its length, its cost and whether it fits.
 pub struct MeasuredRegion {
@@ -32,7 +31,7 @@ struct Run {
 
 // The region from edge a to edge b.
 pub fn measure(file: &[u8], a: usize, b: usize) -> MeasuredRegion
-    requires { ⌜ (verdict (now file) ≡ Verdict.Accepted) × (a < b) × (b ≤ blockCount (taskOf (now file))) ⌝ }
+    requires { ⌜ IsAccepted (now file) × (a < b) × (b ≤ blockCount (taskOf (now file))) ⌝ }
     ensures { λ r. ⌜ Measures (taskOf (now (file .entry))) a b r ⌝ }
 {
     let mut sets = [0u64; 1048];
@@ -123,7 +122,7 @@ fn longer(file: &[u8], sets: &[u64; 1048], run: Run) -> Run
 
 // The region of a run of basic blocks.
 fn region_of(file: &[u8], run: Run) -> MeasuredRegion
-    requires { ⌜ (verdict (now file) ≡ Verdict.Accepted) × Spans (taskOf (now file)) run ⌝ }
+    requires { ⌜ IsAccepted (now file) × Spans (taskOf (now file)) run ⌝ }
     ensures { λ r. ⌜ Measures (taskOf (now (file .entry))) (run .from) (run .to) r ⌝ }
 {
     let loaded = run.lost.common(run.lines);

@@ -2,7 +2,7 @@
 -- that are left, which are read in step with the edges. Assumes nothing.
 use Prim.Native.Nat.{ℕ, suc, _+_, _≤_, _<_}
 use mathlib.Core.Path.{_≡_, refl, sym, ap, _∙_, fun-ext}
-use mathlib.Core.Bool.{Bool, true, false, not, cond, _&&_, and-false, or-false}
+use mathlib.Core.Bool.{Bool, true, false, not, cond, _&&_, and-false, or-false, and-eq-true-iff}
 use mathlib.Core.List.{List, [], _∷_}
 use mathlib.Core.Logic.{by-cases}
 use native.Mathlib.Decide.{ℕ-discrete, decLt}
@@ -23,8 +23,7 @@ use Rattle.model.specs.declared.Line.the-variants.{Empty, Held}
 use Rattle.model.specs.declared.Mapping.the-variants.{Uncached, Cached}
 use Rattle.replaying.specs.declared.Passed.{Passed}
 use Rattle.model.proofs.LineStates.{lies-on, lies-nowhere}
-use Rattle.model.proofs.Lists.{and-split}
-use Rattle.model.proofs.Replay.{none-before, empty-loses}
+use Rattle.model.proofs.Replay.{none-listed, empty-loses}
 
 -- the cache that an array of states stands for
 abbrev pub cacheIn : List Line → Cache
@@ -240,17 +239,17 @@ module _ (n i : ℕ) where
   unfolding every steps listed
   first-next [] w = sym (ne-eqb 0 (suc i) (λ e. omega arith))
   first-next (q ∷ qs) w =
-      let both = and-split (rightPoint n i q) (every (rightPoint n) (steps q qs)) w in
-      let above : i < q = ltb-true i q (and-split (ltb i q) (ltb q n) (both .0) .0) in
-      rw (none-before n q qs (suc i) (both .1) (omega arith)) (or-false (eqb q (suc i)))
+      let both = and-eq-true-iff (rightPoint n i q) (every (rightPoint n) (steps q qs)) .0 w in
+      let above : i < q = ltb-true i q (and-eq-true-iff (ltb i q) (ltb q n) .0 (both .0) .0) in
+      rw (none-listed n q qs (suc i) (both .1) (omega arith)) (or-false (eqb q (suc i)))
 
   -- and if it is not they are all after it
   all-after : (qs : List ℕ) → every (rightPoint n) (steps i qs) ≡ true → eqb (getD qs 0 0) (suc i) ≡ false → every (rightPoint n) (steps (suc i) qs) ≡ true
   unfolding every steps
   all-after [] w e = refl
   all-after (q ∷ qs) w e =
-      let both = and-split (rightPoint n i q) (every (rightPoint n) (steps q qs)) w in
-      let right = and-split (ltb i q) (ltb q n) (both .0) in
+      let both = and-eq-true-iff (rightPoint n i q) (every (rightPoint n) (steps q qs)) .0 w in
+      let right = and-eq-true-iff (ltb i q) (ltb q n) .0 (both .0) in
       rw (lt-ltb (suc i) q (omega (arith, ltb-true i q (right .0), eqb-false q (suc i) e)), right .1, both .1) refl
 
   module _ (ps : List ℕ) (next : ℕ) (w : PointsLeft n ps i next) where
@@ -268,7 +267,7 @@ module _ (n i : ℕ) where
         by-cases (decLt next (length ps)) (λ h. h) (λ h. absurd (omega (arith, List·getD-eq-default ps 0 {n = next} (omega arith)))) in
         let split : drop next ps ≡ suc i ∷ drop (next + 1) ps = drop-cons ps next 0 inside ∙ rw (is, add-one) refl in
         record {
-          rising = and-split (rightPoint n i (suc i)) (every (rightPoint n) (steps (suc i) (drop (next + 1) ps))) (rw split at (w .rising)) .1;
+          rising = and-eq-true-iff (rightPoint n i (suc i)) (every (rightPoint n) (steps (suc i) (drop (next + 1) ps))) .0 (rw split at (w .rising)) .1;
           same = λ j h. w .same j (omega arith) ∙ rw (split, ne-eqb (suc i) j (λ q. omega arith)) refl;
         }
     points-pass false e =

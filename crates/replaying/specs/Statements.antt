@@ -6,12 +6,11 @@ use mathlib.Core.List.{List}
 use Rattle.model.specs.Task.{blockCount}
 use Rattle.model.specs.Lists.{wellFormed}
 use Rattle.model.specs.Regions.{lines}
-use Rattle.model.specs.declared.Verdict.the-variants.{Accepted}
-use Rattle.taskfile.specs.File.{verdict, taskOf}
+use Rattle.taskfile.specs.File.{IsAccepted, taskOf}
 use Rattle.replaying.specs.Calls.{missesAloneOf, missesWithOf}
 
 -- for every accepted file and well-formed list, within the limit or not, the second count less the first is the list's lines (document 02, item 4)
 abbrev pub LinesAdded : Type 0
 LinesAdded =
-    (file ps : List ℕ) → verdict file ≡ Accepted → wellFormed (blockCount (taskOf file)) ps ≡ true
+    (file ps : List ℕ) → IsAccepted file → wellFormed (blockCount (taskOf file)) ps ≡ true
     → missesWithOf file ps ≡ missesAloneOf file ps + lines (taskOf file) ps

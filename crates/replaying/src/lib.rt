@@ -9,7 +9,7 @@ ghost use Rattle.model.specs.Task.{blockCount};
 ghost use Rattle.model.specs.Lines.{sameBlock};
 ghost use Rattle.model.specs.Lists.{wrongPoint};
 ghost use Rattle.model.specs.Replay.{missesAlone, missesWith};
-ghost use Rattle.taskfile.specs.File.{verdict, taskOf};
+ghost use Rattle.taskfile.specs.File.{IsAccepted, taskOf};
 ghost use Rattle.replaying.specs.Calls.{replayVerdict, missesAloneOf, missesWithOf};
 use model::Line;
 use model::Mapping;
@@ -60,10 +60,10 @@ fn no_misses(verdict: Verdict) -> Misses
 // Both counts in one walk over the reads: what each line holds alone, and the block that read it last. With the points a line of H has lost
 // what it holds if no block has read it since the last point.
 fn count_misses(file: &[u8], points: &[u16]) -> Misses
-    requires { ⌜ (verdict (now file) ≡ Verdict.Accepted) × (wrongPoint (blockCount (taskOf (now file))) (now points) ≡ Place.Nowhere) ⌝ }
+    requires { ⌜ IsAccepted (now file) × (wrongPoint (blockCount (taskOf (now file))) (now points) ≡ Place.Nowhere) ⌝ }
     ensures { λ r. ⌜ r ≡ record { verdict = Verdict.Accepted; alone = missesAlone (taskOf (now (file .entry))); preempted = missesWith (taskOf (now (file .entry))) (now (points .entry)) } ⌝ }
 {
-    let cache = cacheline::cache_of(file);
+    let cache = cacheline::geometry_of(file);
     let blocks = taskfile::block_count(file);
     let mut evicted = [false; 512];
     reuse::mark_evicted(&mut evicted, file, cache);

@@ -5,13 +5,12 @@ use mathlib.Core.List.{List}
 use lib.ListN.{length}
 use Rattle.model.specs.Task.{blockCount}
 use Rattle.model.specs.Lines.{useful, accessed, evicted}
-use Rattle.model.specs.declared.Verdict.the-variants.{Accepted}
-use Rattle.taskfile.specs.File.{verdict, taskOf}
+use Rattle.taskfile.specs.File.{IsAccepted, taskOf}
 use Rattle.edgesets.specs.Edges.{linesAt, toggledAt}
 
 -- what the functions about regions are handed beside the file
 pub record Ready (file sets : List ℕ) : Type 0 where
-  pub accepted : verdict file ≡ Accepted
+  pub accepted : IsAccepted file
   pub long : length sets ≡ 1048
   pub useful : (k c : ℕ) → k ≤ blockCount (taskOf file) → linesAt sets k c ≡ useful (taskOf file) k c
   pub accessed : (k c : ℕ) → k ≤ blockCount (taskOf file) → linesAt sets (65 + k) c ≡ accessed (taskOf file) k c

@@ -9,16 +9,15 @@ ghost use Rattle.model.specs.Task.{blockCount};
 ghost use Rattle.model.specs.Lines.{isLine, onLine, firstRead, lookedAt, anyRead, sameBlock, stateAfter, nextRead, readsLookedAt, asNext, evicted};
 ghost use Rattle.model.specs.Lines as Lines;
 ghost use Rattle.lineset.specs.Members.{members};
-ghost use Rattle.taskfile.specs.File.{verdict, header, taskOf, entryReads};
-ghost use Rattle.cacheline.specs.Caches.{CacheOf, WithinCache};
+ghost use Rattle.taskfile.specs.File.{IsAccepted, header, taskOf, entryReads};
+ghost use Rattle.cacheline.specs.Geometries.{GeometryOf, WithinCache};
 ghost use Rattle.edgesets.specs.Edges.{linesAt, toggledAt};
 ghost use Rattle.reuse.specs.Ready.{Ready, Collected};
-use cacheline::Cache;
+use cacheline::Geometry;
 use lineset::LineSet;
 use model::Line;
 use model::Mapping;
 use model::Next;
-use model::Verdict;
 
 // Set k of the array is U(k), set ACCESSED + k is T(k), and set EVICTED is H.
 pub const ACCESSED: usize = 65;
@@ -33,7 +32,7 @@ pub struct Search {
 
 // Finds the sets of all edges; the array is lent with zeros everywhere.
 pub fn find_lines(file: &[u8], sets: &mut [u64; 1048])
-    requires { ⌜ (verdict (now file) ≡ Verdict.Accepted) × (now sets ≡ replicate 1048 0) ⌝ }
+    requires { ⌜ IsAccepted (now file) × (now sets ≡ replicate 1048 0) ⌝ }
     ensures { λ _. ⌜ Ready (now (file .entry)) (now (sets .exit)) ⌝ }
 {
     walk_reads(file, sets);
@@ -43,16 +42,16 @@ pub fn find_lines(file: &[u8], sets: &mut [u64; 1048])
 
 // The next read of line c after block k.
 pub fn next_read(file: &[u8], k: usize, c: usize) -> Search
-    requires { ⌜ (verdict (now file) ≡ Verdict.Accepted) × (k ≤ blockCount (taskOf (now file))) ⌝ }
+    requires { ⌜ IsAccepted (now file) × (k ≤ blockCount (taskOf (now file))) ⌝ }
     ensures { λ r. ⌜ r .next ≡ asNext (nextRead (taskOf (now (file .entry))) k c) ⌝ }
     ensures { λ r. ⌜ r .looked ≡ readsLookedAt (taskOf (now (file .entry))) k c ⌝ }
 {
-    search_from(file, cacheline::cache_of(file), k, c)
+    search_from(file, cacheline::geometry_of(file), k, c)
 }
 
-// The same with the file's cache at hand, block after block; it ends at the first read that lies on the line.
-fn search_from(file: &[u8], cache: Cache, k: usize, c: usize) -> Search
-    requires { ⌜ (verdict (now file) ≡ Verdict.Accepted) × (k ≤ blockCount (taskOf (now file))) × CacheOf (taskOf (now file)) cache ⌝ }
+// The same with the geometry at hand, block after block; it ends at the first read that lies on the line.
+fn search_from(file: &[u8], cache: Geometry, k: usize, c: usize) -> Search
+    requires { ⌜ IsAccepted (now file) × (k ≤ blockCount (taskOf (now file))) × GeometryOf (taskOf (now file)) cache ⌝ }
     ensures { λ r. ⌜ r .next ≡ asNext (nextRead (taskOf (now (file .entry))) k c) ⌝ }
     ensures { λ r. ⌜ r .looked ≡ readsLookedAt (taskOf (now (file .entry))) k c ⌝ }
 {
@@ -75,9 +74,9 @@ fn search_from(file: &[u8], cache: Cache, k: usize, c: usize) -> Search
 }
 
 // The first read of line c in block k of the file.
-fn search_block(file: &[u8], cache: Cache, k: usize, c: usize) -> Search
-    requires { ⌜ (verdict (now file) ≡ Verdict.Accepted) × (1 ≤ k) × (k ≤ header (now file) .blocks + header (now file) .preempters) ⌝ }
-    requires { ⌜ CacheOf (taskOf (now file)) cache ⌝ }
+fn search_block(file: &[u8], cache: Geometry, k: usize, c: usize) -> Search
+    requires { ⌜ IsAccepted (now file) × (1 ≤ k) × (k ≤ header (now file) .blocks + header (now file) .preempters) ⌝ }
+    requires { ⌜ GeometryOf (taskOf (now file)) cache ⌝ }
     ensures { λ r. ⌜ r .next ≡ asNext (firstRead (onLine (taskOf (now (file .entry))) c) (entryReads (now (file .entry)) k)) ⌝ }
     ensures { λ r. ⌜ (r .looked ≡ lookedAt (onLine (taskOf (now (file .entry))) c) (entryReads (now (file .entry)) k)) × (r .looked ≤ 124) ⌝ }
 {
@@ -103,10 +102,10 @@ fn search_block(file: &[u8], cache: Cache, k: usize, c: usize) -> Search
 
 // U(k): what each line holds after block k, and one search for each line that holds something.
 pub fn useful_lines(file: &[u8], k: usize) -> LineSet
-    requires { ⌜ (verdict (now file) ≡ Verdict.Accepted) × (k ≤ blockCount (taskOf (now file))) ⌝ }
+    requires { ⌜ IsAccepted (now file) × (k ≤ blockCount (taskOf (now file))) ⌝ }
     ensures { λ r. ⌜ ((c : ℕ) → members r c ≡ Lines.useful (taskOf (now (file .entry))) k c) ⌝ }
 {
-    let cache = cacheline::cache_of(file);
+    let cache = cacheline::geometry_of(file);
     let count = cache.count as usize;
     let held = held_after(file, cache, k);
     let mut lines = LineSet::empty();
@@ -120,8 +119,8 @@ pub fn useful_lines(file: &[u8], k: usize) -> LineSet
 }
 
 // What each line holds after basic blocks 1 to k.
-fn held_after(file: &[u8], cache: Cache, k: usize) -> [Line; 512]
-    requires { ⌜ (verdict (now file) ≡ Verdict.Accepted) × (k ≤ blockCount (taskOf (now file))) × CacheOf (taskOf (now file)) cache ⌝ }
+fn held_after(file: &[u8], cache: Geometry, k: usize) -> [Line; 512]
+    requires { ⌜ IsAccepted (now file) × (k ≤ blockCount (taskOf (now file))) × GeometryOf (taskOf (now file)) cache ⌝ }
     ensures { λ r. ⌜ (length r ≡ 512) × ((c : ℕ) → c < 512 → getD r c Line.Empty ≡ stateAfter (taskOf (now (file .entry))) k c) ⌝ }
 {
     let mut held = [Line::Empty; 512];
@@ -146,8 +145,8 @@ fn held_after(file: &[u8], cache: Cache, k: usize) -> [Line; 512]
 }
 
 // Whether line c, which holds this after block k, is read next for the same memory block.
-fn is_reread(file: &[u8], cache: Cache, k: usize, c: usize, line: Line) -> bool
-    requires { ⌜ (verdict (now file) ≡ Verdict.Accepted) × (k ≤ blockCount (taskOf (now file))) × CacheOf (taskOf (now file)) cache ⌝ }
+fn is_reread(file: &[u8], cache: Geometry, k: usize, c: usize, line: Line) -> bool
+    requires { ⌜ IsAccepted (now file) × (k ≤ blockCount (taskOf (now file))) × GeometryOf (taskOf (now file)) cache ⌝ }
     ensures { λ r. ⌜ r ≡ sameBlock line (nextRead (taskOf (now (file .entry))) k c) ⌝ }
 {
     match line {
@@ -157,8 +156,8 @@ fn is_reread(file: &[u8], cache: Cache, k: usize, c: usize, line: Line) -> bool
 }
 
 // Whether the next read of line c after block k is of this memory block.
-fn is_next(file: &[u8], cache: Cache, k: usize, c: usize, number: u32) -> bool
-    requires { ⌜ (verdict (now file) ≡ Verdict.Accepted) × (k ≤ blockCount (taskOf (now file))) × CacheOf (taskOf (now file)) cache ⌝ }
+fn is_next(file: &[u8], cache: Geometry, k: usize, c: usize, number: u32) -> bool
+    requires { ⌜ IsAccepted (now file) × (k ≤ blockCount (taskOf (now file))) × GeometryOf (taskOf (now file)) cache ⌝ }
     ensures { λ r. ⌜ r ≡ sameBlock (Line.Held number) (nextRead (taskOf (now (file .entry))) k c) ⌝ }
 {
     let found = search_from(file, cache, k, c);
@@ -171,18 +170,18 @@ fn is_next(file: &[u8], cache: Cache, k: usize, c: usize, number: u32) -> bool
 
 // H: the lines that the preempters evict. They are marked first, and each is then added to the set once.
 fn evicted_lines(file: &[u8]) -> LineSet
-    requires { ⌜ verdict (now file) ≡ Verdict.Accepted ⌝ }
+    requires { ⌜ IsAccepted (now file) ⌝ }
     ensures { λ r. ⌜ ((c : ℕ) → members r c ≡ evicted (taskOf (now (file .entry))) c) ⌝ }
 {
-    let cache = cacheline::cache_of(file);
+    let cache = cacheline::geometry_of(file);
     let mut marks = [false; 512];
     mark_evicted(&mut marks, file, cache);
     marked_lines(&marks, cache.count as usize)
 }
 
 // Marks the lines of H; the array is lent with no mark.
-pub fn mark_evicted(marks: &mut [bool; 512], file: &[u8], cache: Cache)
-    requires { ⌜ (now marks ≡ replicate 512 false) × (verdict (now file) ≡ Verdict.Accepted) × CacheOf (taskOf (now file)) cache ⌝ }
+pub fn mark_evicted(marks: &mut [bool; 512], file: &[u8], cache: Geometry)
+    requires { ⌜ (now marks ≡ replicate 512 false) × IsAccepted (now file) × GeometryOf (taskOf (now file)) cache ⌝ }
     ensures { λ _. ⌜ length (now (marks .exit)) ≡ 512 ⌝ }
     ensures { λ _. ⌜ ((d : ℕ) → getD (now (marks .exit)) d false ≡ evicted (taskOf (now (file .entry))) d) ⌝ }
 {
@@ -196,10 +195,10 @@ pub fn mark_evicted(marks: &mut [bool; 512], file: &[u8], cache: Cache)
 }
 
 // Marks the lines that block k of the file reads.
-fn mark_reads(marks: &mut [bool; 512], file: &[u8], cache: Cache, k: usize)
+fn mark_reads(marks: &mut [bool; 512], file: &[u8], cache: Geometry, k: usize)
     requires { ⌜ length (now marks) ≡ 512 ⌝ }
-    requires { ⌜ (verdict (now file) ≡ Verdict.Accepted) × (1 ≤ k) × (k ≤ header (now file) .blocks + header (now file) .preempters) ⌝ }
-    requires { ⌜ CacheOf (taskOf (now file)) cache ⌝ }
+    requires { ⌜ IsAccepted (now file) × (1 ≤ k) × (k ≤ header (now file) .blocks + header (now file) .preempters) ⌝ }
+    requires { ⌜ GeometryOf (taskOf (now file)) cache ⌝ }
     ensures { λ _. ⌜ length (now (marks .exit)) ≡ 512 ⌝ }
     ensures { λ _. ⌜ ((d : ℕ) → d < 512 → getD (now (marks .exit)) d false ≡ (getD (now (marks .entry)) d false || anyRead (onLine (taskOf (now (file .entry))) d) (entryReads (now (file .entry)) k))) ⌝ }
 {
@@ -248,10 +247,10 @@ fn with_marked(lines: LineSet, c: usize, marked: bool) -> LineSet
 
 // U(k) as toggles, and T(k), in one walk over the reads: what each line holds, and the block that read it last.
 fn walk_reads(file: &[u8], sets: &mut [u64; 1048])
-    requires { ⌜ (verdict (now file) ≡ Verdict.Accepted) × (now sets ≡ replicate 1048 0) ⌝ }
+    requires { ⌜ IsAccepted (now file) × (now sets ≡ replicate 1048 0) ⌝ }
     ensures { λ _. ⌜ Collected (now (file .entry)) (now (sets .exit)) ⌝ }
 {
-    let cache = cacheline::cache_of(file);
+    let cache = cacheline::geometry_of(file);
     let blocks = taskfile::block_count(file);
     let mut held = [Line::Empty; 512];
     let mut since = [0usize; 512];

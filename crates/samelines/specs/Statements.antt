@@ -9,9 +9,8 @@ use Rattle.model.specs.Task.{Preempter, withPreempters}
 use Rattle.model.specs.Lines.{evicted}
 use Rattle.model.specs.declared.Plan.{Plan}
 use Rattle.model.specs.declared.Verdict.{Verdict}
-use Rattle.model.specs.declared.Verdict.the-variants.{Accepted}
 use Rattle.block.specs.Bytes.{Each}
-use Rattle.taskfile.specs.File.{taskOf, fileOf, verdict, EntryWithin}
+use Rattle.taskfile.specs.File.{taskOf, fileOf, IsAccepted, EntryWithin}
 use Rattle.planner.specs.Calls.{edgeVerdict, usefulWords, nextReadOf, lookedOf, regionVerdict, loadedWords, lengthOf, priceVerdict, priceLines, priceCost, blockVerdict, blockInput, blockPlan, PlanAnswer}
 use Rattle.replaying.specs.Calls.{replayVerdict, missesAloneOf, missesWithOf}
 use Rattle.firmware.specs.Calls.{PlanCall, priceReturned, priceLeft}
@@ -72,6 +71,6 @@ PlanCallsEqual =
 -- the numbers are free: any M preempters that fit a file and touch the lines of a file's own can take their place
 abbrev pub Replaced : Type 0
 Replaced =
-    (file : List ℕ) (ps : List Preempter) → verdict file ≡ Accepted → length ps ≡ length (taskOf file .preempters)
+    (file : List ℕ) (ps : List Preempter) → IsAccepted file → length ps ≡ length (taskOf file .preempters)
     → Each (λ p. EntryWithin (p .id) (p .reads)) ps → ((c : ℕ) → evicted (taskOf file) c ≡ evicted (withPreempters (taskOf file) ps) c)
     → SameLines file (fileOf (withPreempters (taskOf file) ps))

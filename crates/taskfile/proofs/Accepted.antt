@@ -2,7 +2,7 @@
 -- Assumes nothing.
 use Prim.Native.Nat.{ℕ, zero, suc, _+_, _*_, _/_, _%_, _<_, _≤_}
 use mathlib.Core.Path.{_≡_, refl, sym, ap}
-use mathlib.Core.Bool.{Bool, true, false, cond, _&&_}
+use mathlib.Core.Bool.{Bool, true, false, cond, _&&_, and-eq-true-iff}
 use mathlib.Core.List.{List, [], _++_, append-nil, append-assoc}
 use native.Mathlib.Nat.{add-zero, add-suc, suc-add, add-comm, mul-comm}
 use native.Mathlib.Numerals.{add-one}
@@ -17,20 +17,14 @@ use Rattle.model.specs.declared.Place.the-variants.{Nowhere, At}
 use Rattle.model.specs.Answers.{refusedAt}
 use Rattle.model.specs.declared.Refusal.{Refusal}
 use Rattle.model.specs.declared.Verdict.the-variants.{Accepted, Refused}
-use Rattle.model.proofs.Verdicts.{never-both, both-accepted}
-use Rattle.model.proofs.Lists.{and-split}
+use Rattle.model.proofs.Verdicts.{never-both, both-accepted, row-holds}
 use Rattle.block.specs.Bytes.{field}
-use Rattle.block.specs.Blocks.{lowestFrom}
+use Rattle.model.specs.Lists.{lowestFrom}
 use Rattle.block.proofs.Bytes.{field-part, length-fields, getD-fields}
-use Rattle.block.proofs.Blocks.{lowest-nowhere}
+use Rattle.model.proofs.Lowest.{lowest-nowhere}
 use Rattle.taskfile.specs.File.{readsIn, basicOf, preempterOf, blockIn, blocksIn, entryReads, header, collect, taskOf, sumRight, countsInRange, headerInRange, headerRight, entryRight, blockRight, lengthRight, lengthRow, checksumRow, headerRow, countRow, blockRow, verdict}
 
--- a row accepts where its test holds
-
-pub row-holds : (r : Refusal) (b : Bool) → cond b Accepted (Refused r) ≡ Accepted → b ≡ true
-row-holds r true e = refl
-row-holds r false e = absurd (never-both (sym e))
-
+-- a row accepts where no place is wrong
 row-nowhere : (r : ℕ → Refusal) (p : Place) → refusedAt p r Accepted ≡ Accepted → p ≡ Nowhere
 row-nowhere r Nowhere e = refl
 row-nowhere r (At k) e = absurd (never-both (sym e))
@@ -51,21 +45,21 @@ pub record AcceptedFile (file : List ℕ) : Type 0 where
 pub counts-range : (n m s : ℕ) → countsInRange n m s ≡ true → (1 ≤ n) × (n ≤ 64) × (m ≤ 32) × (1 ≤ s) × (s ≤ 512)
 unfolding countsInRange
 counts-range n m s e =
-    let a = and-split (leb 1 n && leb n 64 && leb m 32 && leb 1 s) (leb s 512) e in
-    let b = and-split (leb 1 n && leb n 64 && leb m 32) (leb 1 s) (a .0) in
-    let c = and-split (leb 1 n && leb n 64) (leb m 32) (b .0) in
-    let d = and-split (leb 1 n) (leb n 64) (c .0) in
+    let a = and-eq-true-iff (leb 1 n && leb n 64 && leb m 32 && leb 1 s) (leb s 512) .0 e in
+    let b = and-eq-true-iff (leb 1 n && leb n 64 && leb m 32) (leb 1 s) .0 (a .0) in
+    let c = and-eq-true-iff (leb 1 n && leb n 64) (leb m 32) .0 (b .0) in
+    let d = and-eq-true-iff (leb 1 n) (leb n 64) .0 (c .0) in
     (leb-true _ _ (d .0), leb-true _ _ (d .1), leb-true _ _ (c .1), leb-true _ _ (b .1), leb-true _ _ (a .1))
 
 pub in-range : (t : Task) → headerInRange t ≡ true
     → (1 ≤ blockCount t) × (blockCount t ≤ 64) × (length (t .preempters) ≤ 32) × (1 ≤ t .lineCount) × (t .lineCount ≤ 512)
 unfolding headerInRange
-in-range t e = counts-range (blockCount t) (length (t .preempters)) (t .lineCount) (and-split (countsInRange (blockCount t) (length (t .preempters)) (t .lineCount)) _ e .0)
+in-range t e = counts-range (blockCount t) (length (t .preempters)) (t .lineCount) (and-eq-true-iff (countsInRange (blockCount t) (length (t .preempters)) (t .lineCount)) _ .0 e .0)
 
 pub whole-blocks : (n : ℕ) → lengthRight n ≡ true → (0 < n) × (n % 512 ≡ 0)
 unfolding lengthRight
 whole-blocks n e =
-    let a = and-split (ltb 0 n) (eqb (n % 512) 0) (and-split (ltb 0 n && eqb (n % 512) 0) (leb n 49664) e .0) in
+    let a = and-eq-true-iff (ltb 0 n) (eqb (n % 512) 0) .0 (and-eq-true-iff (ltb 0 n && eqb (n % 512) 0) (leb n 49664) .0 e .0) in
     (ltb-true 0 n (a .0), eqb-true (n % 512) 0 (a .1))
 
 -- a number of block k is a number of the file
@@ -124,7 +118,7 @@ accepted file e =
     let whole = whole-blocks (length file) (row-holds _ (lengthRight (length file)) (size .0)) in
     let counted : length file / 512 ≡ 1 + n + m = eqb-true (blocksIn file) (1 + n + m) (row-holds _ (eqb (blocksIn file) (1 + n + m)) (count .0)) in
     let right : headerRight file ≡ true = row-holds _ (headerRight file) (head .0) in
-    let range = rw (block-count file, preempter-count file) at (in-range (taskOf file) (and-split (headerInRange (taskOf file)) _ right .0)) in
+    let range = rw (block-count file, preempter-count file) at (in-range (taskOf file) (and-eq-true-iff (headerInRange (taskOf file)) _ .0 right .0)) in
     let all : (k : ℕ) → 1 ≤ k → k ≤ n + m → blockRight file k ≡ true =
     λ k l u. lowest-nowhere (blockRight file) 1 (n + m) (row-nowhere _ (lowestFrom (blockRight file) 1 (n + m)) (count .1)) k l (omega arith) in
     record {
@@ -141,8 +135,8 @@ accepted file e =
     }
   where
     few : (basic count : Bool) (x y : Bool) → cond basic (count && x) (count && y) ≡ true → count ≡ true
-    few true count x y h = and-split count x h .0
-    few false count x y h = and-split count y h .0
+    few true count x y h = and-eq-true-iff count x .0 h .0
+    few false count x y h = and-eq-true-iff count y .0 h .0
 
 -- an accepted file has at most 64 basic blocks
 pub few-blocks : (file : List ℕ) → verdict file ≡ Accepted → blockCount (taskOf file) ≤ 64

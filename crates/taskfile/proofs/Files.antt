@@ -1,5 +1,6 @@
 -- An accepted file is the bytes of its task, and its task is within the limits.
 -- Assumes nothing.
+use mathlib.Core.Bool.{and-eq-true-iff}
 use Prim.Native.Nat.{ℕ, zero, suc, _+_, _*_, _<_, _≤_}
 use mathlib.Core.Path.{_≡_, refl, ap}
 use mathlib.Core.List.{List, [], _∷_, _++_, map, append-assoc}
@@ -10,7 +11,6 @@ use lib.ListN.{length, take, drop}
 use lib.Seq.{take-all, take-add, drop-drop}
 use borrow.Author.Tests.{le-leb, lt-leb}
 use Rattle.model.specs.Task.{Task}
-use Rattle.model.proofs.Lists.{and-split}
 use Rattle.block.specs.Bytes.{AllBytes, InWidth, packed, les, field, Each}
 use Rattle.block.specs.Blocks.{numbered, sealed}
 use Rattle.block.proofs.Bytes.{bytes-drop, bytes-take, bytes-append, bytes-les, field-below, length-fields, fields-below}
@@ -56,20 +56,20 @@ module _ (file : List ℕ) (a : AcceptedFile file) where
   unfolding headerRight
   first-block =
       block-is 0 (packed (headerNumbers (taskOf file))) (blockIn file 0) (a .checksums 0 (omega arith))
-      (and-split (headerInRange (taskOf file)) _ (a .header-right) .1)
+      (and-eq-true-iff (headerInRange (taskOf file)) _ .0 (a .header-right) .1)
 
   pub basic-block : (k : ℕ) → 1 ≤ k → k < 1 + header file .blocks → blockIn file k ≡ sealed (numbered k (basicBytes (basicOf (blockIn file k))))
   unfolding blockRight entryRight basicOf basicBytes
   basic-block k l u =
       let right = rw (le-leb k (header file .blocks) (omega arith)) at (a .blocks-right k l (omega arith)) in
-      block-is k (basicBytes (basicOf (blockIn file k))) (blockIn file k) (a .checksums k (omega arith)) (and-split (leb (field (blockIn file k) 2 2) 124) _ right .1)
+      block-is k (basicBytes (basicOf (blockIn file k))) (blockIn file k) (a .checksums k (omega arith)) (and-eq-true-iff (leb (field (blockIn file k) 2 2) 124) _ .0 right .1)
 
   preempter-block : (k : ℕ) → 1 + header file .blocks ≤ k → k < 1 + header file .blocks + header file .preempters
       → blockIn file k ≡ sealed (numbered k (preempterBytes (preempterOf (blockIn file k))))
   unfolding blockRight entryRight preempterOf preempterBytes
   preempter-block k l u =
       let right = rw (lt-leb k (header file .blocks) (omega arith)) at (a .blocks-right k (omega arith) (omega arith)) in
-      block-is k (preempterBytes (preempterOf (blockIn file k))) (blockIn file k) (a .checksums k (omega arith)) (and-split (leb (field (blockIn file k) 2 2) 124) _ right .1)
+      block-is k (preempterBytes (preempterOf (blockIn file k))) (blockIn file k) (a .checksums k (omega arith)) (and-eq-true-iff (leb (field (blockIn file k) 2 2) 124) _ .0 right .1)
 
   file-of-task : fileOf (taskOf file) ≡ file
   unfolding fileOf namedBytes wholeBlocks taskOf blockIn
@@ -148,7 +148,7 @@ module _ (file : List ℕ) (a : AcceptedFile file) where
   unfolding headerRight taskOf basicOf preempterOf
   within =
       record {
-        in-range = and-split (headerInRange (taskOf file)) _ (a .header-right) .0;
+        in-range = and-eq-true-iff (headerInRange (taskOf file)) _ .0 (a .header-right) .0;
         numbers = header-fits;
         blocks = collect-each (λ b. EntryWithin (b .time) (b .reads)) (λ k. basicOf (blockIn file k)) 1 (header file .blocks)
             (λ k l u. entry-within (blockIn file k) (bytes-in k) (a .count-most k l (omega arith)));

@@ -2,17 +2,18 @@
 -- Assumes nothing.
 use Prim.Native.Nat.{ℕ, _+_, _-_, _*_, _≤_}
 use mathlib.Core.Path.{_≡_, sym, ap, _∙_}
-use mathlib.Core.Bool.{Bool, true, _&&_}
+use mathlib.Core.Bool.{Bool, true, _&&_, and-eq-true-iff}
 use mathlib.Core.List.{List, [], _∷_, map, append-nil}
 use native.Mathlib.Omega.{arith}
 use lib.ListN.{length, drop}
 use Rattle.model.specs.Task.{Task}
-use Rattle.model.proofs.Lists.{and-split}
 use Rattle.block.specs.Bytes.{AllBytes, packed, field}
-use Rattle.block.specs.Blocks.{framed, lowestFrom}
+use Rattle.model.specs.Lists.{lowestFrom}
+use Rattle.block.specs.Blocks.{framed}
 use Rattle.block.proofs.Bytes.{length-part, length-fields, les-fields, part-take}
 use Rattle.block.proofs.Packing.{total, unpacked}
-use Rattle.block.proofs.Blocks.{framed-read, scan-next}
+use Rattle.model.proofs.Lowest.{scan-next}
+use Rattle.block.proofs.Blocks.{framed-read}
 use Rattle.taskfile.specs.File.{headerNumbers, entryBytes, readsIn, blockIn, header, taskOf}
 use Rattle.taskfile.proofs.Accepted.{block-count, preempter-count}
 
@@ -43,9 +44,9 @@ entry-bytes bs b l kind byte1 n e h =
 -- four are right: on to the fifth
 pub scan-four : (f : ℕ → Bool) (a b n : ℕ) → 4 ≤ n → b ≡ a + 4 → (f a && f (a + 1) && f (a + 2) && f (a + 3)) ≡ true → lowestFrom f a n ≡ lowestFrom f b (n - 4)
 scan-four f a b n h s e =
-    let fourth = and-split (f a && f (a + 1) && f (a + 2)) (f (a + 3)) e in
-    let third = and-split (f a && f (a + 1)) (f (a + 2)) (fourth .0) in
-    let second = and-split (f a) (f (a + 1)) (third .0) in
+    let fourth = and-eq-true-iff (f a && f (a + 1) && f (a + 2)) (f (a + 3)) .0 e in
+    let third = and-eq-true-iff (f a && f (a + 1)) (f (a + 2)) .0 (fourth .0) in
+    let second = and-eq-true-iff (f a) (f (a + 1)) .0 (third .0) in
     let rest : n - 1 - 1 - 1 - 1 ≡ n - 4 = omega arith in
     scan-next f a (a + 1) n (omega arith) (omega arith) (second .0) ∙
     scan-next f (a + 1) (a + 2) (n - 1) (omega arith) (omega arith) (second .1) ∙

@@ -2,7 +2,7 @@
 -- Assumes nothing.
 use Prim.Native.Nat.{ℕ, _+_, _%_, _≤_}
 use mathlib.Core.Path.{_≡_}
-use mathlib.Core.Bool.{Bool, true, false, cond, _&&_}
+use mathlib.Core.Bool.{Bool, true, false, cond, _&&_, and-eq-true-iff}
 use mathlib.Core.List.{List}
 use native.Mathlib.Omega.{arith}
 use lib.Dec.{eqb, leb, ltb}
@@ -12,18 +12,17 @@ use Rattle.model.specs.Answers.{place, verdictPlace}
 use Rattle.model.specs.declared.Refusal.{Refusal}
 use Rattle.model.specs.declared.Refusal.the-variants.{Length, Checksum, WrongHeader, BlockCount, WrongBlock}
 use Rattle.model.specs.declared.Verdict.the-variants.{Accepted, Refused}
-use Rattle.model.proofs.Lists.{and-split}
 use Rattle.model.proofs.Places.{then-most, at-most}
-use Rattle.block.specs.Blocks.{lowestFrom}
-use Rattle.block.proofs.Blocks.{lowest-within}
+use Rattle.model.specs.Lists.{lowestFrom}
+use Rattle.model.proofs.Lowest.{lowest-within}
 use Rattle.taskfile.specs.File.{blocksIn, header, sumRight, headerRight, blockRight, lengthRight, lengthRow, checksumRow, headerRow, countRow, blockRow, verdict}
-use Rattle.taskfile.proofs.Accepted.{row-holds}
+use Rattle.model.proofs.Verdicts.{row-holds}
 
 blocks-most : (file : List ℕ) → lengthRow file ≡ Accepted → blocksIn file ≤ 97
 unfolding lengthRow lengthRight blocksIn
 blocks-most file e =
     let right = row-holds _ (lengthRight (length file)) e in
-    omega (arith, leb-true (length file) 49664 (and-split (ltb 0 (length file) && eqb (length file % 512) 0) (leb (length file) 49664) right .1))
+    omega (arith, leb-true (length file) 49664 (and-eq-true-iff (ltb 0 (length file) && eqb (length file % 512) 0) (leb (length file) 49664) .0 right .1))
 
 -- a row that refuses at no block
 row-most : (b : Bool) (r : Refusal) → place r ≤ 97 → verdictPlace (cond b Accepted (Refused r)) ≤ 97

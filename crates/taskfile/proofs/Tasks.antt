@@ -18,7 +18,8 @@ use Rattle.block.specs.Blocks.{numbered, sealed}
 use Rattle.block.proofs.Bytes.{length-les}
 use Rattle.block.proofs.Each.{each-at, each-map, each-append}
 use Rattle.block.proofs.Packing.{numberAt, numbers-read}
-use Rattle.block.proofs.Blocks.{length-numbered, length-sealed, afterNamed, sealed-named, numbers-back, list-back, checksum-sealed, body-sealed, nowhere-lowest}
+use Rattle.model.proofs.Lowest.{nowhere-lowest}
+use Rattle.block.proofs.Blocks.{length-numbered, length-sealed, afterNamed, sealed-named, numbers-back, list-back, checksum-sealed, body-sealed}
 use Rattle.taskfile.specs.File.{blockIn, blocksIn, header, readsIn, basicOf, preempterOf, collect, taskOf, headerNumbers, entryBytes, basicBytes, preempterBytes, namedBytes, wholeBlocks, fileOf, lengthRight, sumRight, headerRight, entryRight, blockRight, lengthRow, checksumRow, headerRow, countRow, blockRow, verdict, EntryWithin, Within}
 use Rattle.taskfile.specs.Statements.{FileThenTask}
 use Rattle.taskfile.proofs.Accepted.{in-range, length-collect, getD-collect}

@@ -12,7 +12,8 @@ use Rattle.model.specs.declared.Refusal.the-variants.{Length, Checksum, WrongHe
 use Rattle.model.specs.declared.Verdict.{Verdict}
 use Rattle.model.specs.declared.Verdict.the-variants.{Accepted, Refused}
 use Rattle.block.specs.Bytes.{Sized, InWidth, packed, les, field, fields, Each}
-use Rattle.block.specs.Blocks.{numbered, sealed, checksumRight, bodyRight, lowestFrom}
+use Rattle.model.specs.Lists.{lowestFrom}
+use Rattle.block.specs.Blocks.{numbered, sealed, checksumRight, bodyRight}
 
 -- block k of a file
 unfoldable pub blockIn : List ℕ → ℕ → List ℕ
@@ -152,6 +153,10 @@ blockRow file = refusedAt (lowestFrom (blockRight file) 1 (header file .blocks +
 -- the answer to any bytes: the refusal of the first row that has one
 unfoldable pub verdict : List ℕ → Verdict
 verdict file = andThen (lengthRow file) (andThen (checksumRow file) (andThen (headerRow file) (andThen (countRow file) (blockRow file))))
+
+-- a file is accepted
+abbrev pub IsAccepted : List ℕ → Type 0
+IsAccepted file = verdict file ≡ Accepted
 
 -- what a block can hold: at most 124 reads, and numbers of four bytes
 pub record EntryWithin (x : ℕ) (reads : List ℕ) : Type 0 where

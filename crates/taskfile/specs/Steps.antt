@@ -3,7 +3,7 @@ use Prim.Native.Nat.{ℕ, _+_, _-_, _≤_}
 use mathlib.Core.Path.{_≡_}
 use mathlib.Core.Bool.{Bool, _&&_}
 use mathlib.Core.List.{List}
-use Rattle.block.specs.Blocks.{lowestFrom}
+use Rattle.model.specs.Lists.{lowestFrom}
 use Rattle.taskfile.specs.File.{blocksIn, sumRight}
 
 -- the checksums of the four blocks from block k on are right

@@ -5,7 +5,7 @@ ghost use lib.ListN.{length, getD};
 ghost use Rattle.model.specs.Answers.{andThen};
 ghost use Rattle.model.specs.Task.{blockCount};
 ghost use Rattle.model.specs.Lines.{blockAt};
-ghost use Rattle.taskfile.specs.File.{blockIn, header, entryReads, taskOf, lengthRight, countsInRange, scratchInRange, headerInRange, headerRight, entryRight, blockRight, checksumRow, headerRow, countRow, blockRow, verdict};
+ghost use Rattle.taskfile.specs.File.{blockIn, header, entryReads, taskOf, lengthRight, countsInRange, scratchInRange, headerInRange, headerRight, entryRight, blockRight, checksumRow, headerRow, countRow, blockRow, IsAccepted, verdict};
 ghost use Rattle.taskfile.specs.Steps.{fourRight, LeftToTest};
 use model::Refusal;
 use model::Verdict;
@@ -214,7 +214,7 @@ fn entry_right(block: &[u8], number: usize, kind: u8, byte_1: u8) -> bool
 
 // N, the number of basic blocks.
 pub fn block_count(file: &[u8]) -> usize
-    requires { ⌜ verdict (now file) ≡ Verdict.Accepted ⌝ }
+    requires { ⌜ IsAccepted (now file) ⌝ }
     ensures { λ r. ⌜ (r ≡ blockCount (taskOf (now (file .entry)))) × (1 ≤ r) × (r ≤ 64) ⌝ }
 {
     block::u16_at(file, 2) as usize
@@ -222,7 +222,7 @@ pub fn block_count(file: &[u8]) -> usize
 
 // M, the number of preempter blocks.
 pub fn preempter_count(file: &[u8]) -> usize
-    requires { ⌜ verdict (now file) ≡ Verdict.Accepted ⌝ }
+    requires { ⌜ IsAccepted (now file) ⌝ }
     ensures { λ r. ⌜ (r ≡ length (taskOf (now (file .entry)) .preempters)) × (r ≤ 32) ⌝ }
 {
     block::u16_at(file, 4) as usize
@@ -230,7 +230,7 @@ pub fn preempter_count(file: &[u8]) -> usize
 
 // S, the number of cache lines.
 pub fn line_count(file: &[u8]) -> u32
-    requires { ⌜ verdict (now file) ≡ Verdict.Accepted ⌝ }
+    requires { ⌜ IsAccepted (now file) ⌝ }
     ensures { λ r. ⌜ (r ≡ taskOf (now (file .entry)) .lineCount) × (1 ≤ r) × (r ≤ 512) ⌝ }
 {
     block::u16_at(file, 6) as u32
@@ -238,7 +238,7 @@ pub fn line_count(file: &[u8]) -> u32
 
 // Q, the limit of a region.
 pub fn limit(file: &[u8]) -> u32
-    requires { ⌜ verdict (now file) ≡ Verdict.Accepted ⌝ }
+    requires { ⌜ IsAccepted (now file) ⌝ }
     ensures { λ r. ⌜ r ≡ taskOf (now (file .entry)) .limit ⌝ }
 {
     block::u32_at(file, 8)
@@ -246,7 +246,7 @@ pub fn limit(file: &[u8]) -> u32
 
 // R, the ticks for one reload.
 pub fn reload(file: &[u8]) -> u32
-    requires { ⌜ verdict (now file) ≡ Verdict.Accepted ⌝ }
+    requires { ⌜ IsAccepted (now file) ⌝ }
     ensures { λ r. ⌜ r ≡ taskOf (now (file .entry)) .reload ⌝ }
 {
     block::u32_at(file, 12)
@@ -254,7 +254,7 @@ pub fn reload(file: &[u8]) -> u32
 
 // The task's id.
 pub fn id(file: &[u8]) -> u32
-    requires { ⌜ verdict (now file) ≡ Verdict.Accepted ⌝ }
+    requires { ⌜ IsAccepted (now file) ⌝ }
     ensures { λ r. ⌜ r ≡ taskOf (now (file .entry)) .id ⌝ }
 {
     block::u32_at(file, 16)
@@ -262,7 +262,7 @@ pub fn id(file: &[u8]) -> u32
 
 // The first memory block of the scratch range.
 pub fn scratch_first(file: &[u8]) -> u32
-    requires { ⌜ verdict (now file) ≡ Verdict.Accepted ⌝ }
+    requires { ⌜ IsAccepted (now file) ⌝ }
     ensures { λ r. ⌜ r ≡ taskOf (now (file .entry)) .scratchFirst ⌝ }
 {
     block::u32_at(file, 20)
@@ -270,7 +270,7 @@ pub fn scratch_first(file: &[u8]) -> u32
 
 // How many memory blocks the scratch range has.
 pub fn scratch_count(file: &[u8]) -> u32
-    requires { ⌜ verdict (now file) ≡ Verdict.Accepted ⌝ }
+    requires { ⌜ IsAccepted (now file) ⌝ }
     ensures { λ r. ⌜ r ≡ taskOf (now (file .entry)) .scratchCount ⌝ }
 {
     block::u32_at(file, 24)
@@ -278,7 +278,7 @@ pub fn scratch_count(file: &[u8]) -> u32
 
 // The time of basic block i + 1.
 pub fn time(file: &[u8], i: usize) -> u32
-    requires { ⌜ (verdict (now file) ≡ Verdict.Accepted) × (i < blockCount (taskOf (now file))) ⌝ }
+    requires { ⌜ IsAccepted (now file) × (i < blockCount (taskOf (now file))) ⌝ }
     ensures { λ r. ⌜ r ≡ blockAt (taskOf (now (file .entry))) i .time ⌝ }
 {
     block::u32_at(file, (i + 1) * 512 + 4)
@@ -286,7 +286,7 @@ pub fn time(file: &[u8], i: usize) -> u32
 
 // How many numbers block k of the file reads.
 pub fn read_count(file: &[u8], k: usize) -> usize
-    requires { ⌜ (verdict (now file) ≡ Verdict.Accepted) × (1 ≤ k) × (k ≤ header (now file) .blocks + header (now file) .preempters) ⌝ }
+    requires { ⌜ IsAccepted (now file) × (1 ≤ k) × (k ≤ header (now file) .blocks + header (now file) .preempters) ⌝ }
     ensures { λ r. ⌜ (r ≡ length (entryReads (now (file .entry)) k)) × (r ≤ 124) ⌝ }
 {
     block::u16_at(file, k * 512 + 2) as usize
@@ -294,7 +294,7 @@ pub fn read_count(file: &[u8], k: usize) -> usize
 
 // Number j that block k of the file reads.
 pub fn read(file: &[u8], k: usize, j: usize) -> u32
-    requires { ⌜ (verdict (now file) ≡ Verdict.Accepted) × (1 ≤ k) × (k ≤ header (now file) .blocks + header (now file) .preempters) ⌝ }
+    requires { ⌜ IsAccepted (now file) × (1 ≤ k) × (k ≤ header (now file) .blocks + header (now file) .preempters) ⌝ }
     requires { ⌜ j < length (entryReads (now file) k) ⌝ }
     ensures { λ r. ⌜ r ≡ getD (entryReads (now (file .entry)) k) j 0 ⌝ }
 {

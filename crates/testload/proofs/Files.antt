@@ -10,11 +10,11 @@ use borrow.Rule.Slice.PartMut.{putMid}
 use borrow.Author.Tests.{eqb-true}
 use Rattle.model.specs.declared.Refusal.the-variants.{Output, OutOfRange}
 use Rattle.model.specs.declared.Verdict.the-variants.{Accepted}
-use Rattle.model.proofs.Verdicts.{both-accepted}
+use Rattle.model.proofs.Verdicts.{row-holds, both-accepted}
 use Rattle.block.specs.Bytes.{packed, Each}
 use Rattle.block.specs.Blocks.{numbered, sealedBlocks}
 use Rattle.taskfile.specs.File.{headerNumbers, basicBytes, preempterBytes, countsInRange, scratchInRange, headerInRange, fileOf, Within}
-use Rattle.taskfile.proofs.Accepted.{row-holds, counts-range}
+use Rattle.taskfile.proofs.Accepted.{counts-range}
 use Rattle.taskfile.proofs.Tasks.{file-then-task}
 use Rattle.writer.specs.Writing.{outputRow, headerOf, Written}
 use Rattle.writer.proofs.Laws.{written-task}

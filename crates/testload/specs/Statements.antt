@@ -3,7 +3,7 @@ use Prim.Native.Nat.{ℕ, _^_, _<_}
 use mathlib.Core.Path.{_≡_}
 use mathlib.Core.List.{List}
 use Rattle.model.specs.declared.Verdict.the-variants.{Accepted}
-use Rattle.taskfile.specs.File.{taskOf, verdict}
+use Rattle.taskfile.specs.File.{taskOf, IsAccepted}
 use Rattle.testload.specs.Draws.{drawnTask}
 use Rattle.testload.specs.Calls.{generateVerdict, generated}
 
@@ -11,4 +11,4 @@ use Rattle.testload.specs.Calls.{generateVerdict, generated}
 abbrev pub GeneratedAccepted : Type 0
 GeneratedAccepted =
     (seed n m s q r : ℕ) (out : List ℕ) → seed < 2 ^ 32 → q < 2 ^ 32 → r < 2 ^ 32 → generateVerdict n m s out ≡ Accepted
-    → (verdict (generated seed n m s q r out) ≡ Accepted) × (taskOf (generated seed n m s q r out) ≡ drawnTask seed n m s q r)
+    → IsAccepted (generated seed n m s q r out) × (taskOf (generated seed n m s q r out) ≡ drawnTask seed n m s q r)

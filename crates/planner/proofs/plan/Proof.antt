@@ -15,15 +15,15 @@ enum-told c = search needs
 enum-told-2 : tie.Need-enum-told-2
 enum-told-2 c = search needs
 
-no-plan-requires : tie.Need-no-plan-requires
-no-plan-requires c κs = search needs
+refused-plan-requires : tie.Need-refused-plan-requires
+refused-plan-requires c κs = search needs
 
 returns : tie.Need-returns
 returns c =
     let told = c .before .enum-told2 .given .1 in
     let check = c .before .before .before .check .ensures in
     record {
-      refused = λ x e. (c .no-plan .ensures .0 ∙ check ∙ e, c .no-plan .ensures .1);
+      refused = λ x e. (c .refused-plan .ensures .0 ∙ check ∙ e, c .refused-plan .ensures .1);
       planned = λ e. absurd (never-both (sym e ∙ sym check ∙ told));
     }
 
@@ -42,7 +42,7 @@ plan-spec =
     check-requires
     enum-told
     enum-told-2
-    no-plan-requires
+    refused-plan-requires
     returns
     least-plan-requires
     returns-2)

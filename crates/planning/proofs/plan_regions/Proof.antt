@@ -30,14 +30,14 @@ block-count-requires c κs = search needs
 place-requires : tie.Need-place-requires
 place-requires c κs = search needs
 
-no-plan-requires : tie.Need-no-plan-requires
-no-plan-requires c κs = search needs
+refused-plan-requires : tie.Need-refused-plan-requires
+refused-plan-requires c κs = search needs
 
 returns : tie.Need-returns
 returns c =
     let found = c .before .before .before .before in
     let file = found .before .before .before .before .before .before .args .file .now in
-    rw (c .no-plan .ensures .0, c .no-plan .ensures .1)
+    rw (c .refused-plan .ensures .0, c .refused-plan .ensures .1)
     (none-planned (taskOf file) _ (found .place .result) (found .before .before .before .fill-table .ensures .1) (placed found)
     (not-true (found .place .result .found) (c .before .if1 .taken)))
 
@@ -80,7 +80,7 @@ plan-regions-spec =
     fill-table-requires
     block-count-requires
     place-requires
-    no-plan-requires
+    refused-plan-requires
     returns
     array-share-prefix-points
     slice-aggregate-price-list

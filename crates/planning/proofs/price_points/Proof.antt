@@ -30,14 +30,14 @@ enum-told c = search needs
 enum-told-2 : tie.Need-enum-told-2
 enum-told-2 c = search needs
 
-no-plan-requires : tie.Need-no-plan-requires
-no-plan-requires c κs = search needs
+refused-plan-requires : tie.Need-refused-plan-requires
+refused-plan-requires c κs = search needs
 
 returns : tie.Need-returns
 returns c =
     let price = c .before .before .before .price-of in
     let told = c .before .enum-told2 .given .1 in
-    let answers = c .no-plan .ensures in
+    let answers = c .refused-plan .ensures in
     rw (answers .0, answers .1, ← price .ensures .verdict, told) (refl, refl)
 
 plan-of-requires : tie.Need-plan-of-requires
@@ -70,7 +70,7 @@ price-points-spec =
     price-of-requires
     enum-told
     enum-told-2
-    no-plan-requires
+    refused-plan-requires
     returns
     plan-of-requires
     returns-2)

@@ -13,13 +13,13 @@ returns : tie.Need-returns
 unfolding planVerdict
 returns c = rw (← c .before .in-range .ensures, not-true (c .before .in-range .result) (c .if1 .taken))
 
-check-entries-requires : tie.Need-check-entries-requires
-check-entries-requires c κs = search needs
+check-points-requires : tie.Need-check-points-requires
+check-points-requires c κs = search needs
 
 returns-2 : tie.Need-returns-2
 unfolding planVerdict
 returns-2 c =
-    rw (← c .before .before .in-range .ensures, not-false (c .before .before .in-range .result) (c .before .if1 .left)) (c .check-entries .ensures)
+    rw (← c .before .before .in-range .ensures, not-false (c .before .before .in-range .result) (c .before .if1 .left)) (c .check-points .ensures)
 
 pub check-spec : {M : Type 1} → statement M
-check-spec = tie.close (tie.spec in-range-requires returns check-entries-requires returns-2)
+check-spec = tie.close (tie.spec in-range-requires returns check-points-requires returns-2)

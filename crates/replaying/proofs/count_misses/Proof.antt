@@ -35,8 +35,8 @@ abbrev μ-loop : tie.MeasureT-loop
 μ-loop file points cache blocks evicted held₀ since₀ alone₀ preempted₀ passed₀ i₀ held since alone preempted passed i =
     blocks - i
 
-cache-of-requires : tie.Need-cache-of-requires Inv-loop2 μ-loop2 Inv-loop μ-loop
-cache-of-requires c κs = search needs
+geometry-of-requires : tie.Need-geometry-of-requires Inv-loop2 μ-loop2 Inv-loop μ-loop
+geometry-of-requires c κs = search needs
 
 block-count-requires : tie.Need-block-count-requires Inv-loop2 μ-loop2 Inv-loop μ-loop
 block-count-requires c κs = search needs
@@ -143,7 +143,7 @@ loop2-again c =
     let file = start .args .file .now in
     let t = taskOf file in
     let ps = start .args .points .now in
-    let cache = turn .before .before .before .before .before .before .before .before .cache-of in
+    let cache = turn .before .before .before .before .before .before .before .before .geometry-of in
     let number = c .before .before .read in
     let line = c .before .line-of in
     let taken = turn .loop2-test .taken in
@@ -211,7 +211,7 @@ count-misses-spec =
     μ-loop2
     Inv-loop
     μ-loop
-    cache-of-requires
+    geometry-of-requires
     block-count-requires
     mark-evicted-requires
     loop-holds

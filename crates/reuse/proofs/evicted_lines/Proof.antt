@@ -11,8 +11,8 @@ use borrow.Author.Needs.{needs}
 use Rattle.reuse.proofs.evicted_lines.Statement.{statement}
 use Rattle.reuse.proofs.evicted_lines.Tie as tie
 
-cache-of-requires : tie.Need-cache-of-requires
-cache-of-requires c κs = search needs
+geometry-of-requires : tie.Need-geometry-of-requires
+geometry-of-requires c κs = search needs
 
 mark-evicted-requires : tie.Need-mark-evicted-requires
 mark-evicted-requires c κs = search needs
@@ -26,7 +26,7 @@ marked-lines-requires c κs = search needs
 returns : tie.Need-returns
 returns c =
     let marked = c .before .before .before in
-    let cache = marked .before .before .cache-of in
+    let cache = marked .before .before .geometry-of in
     let file = marked .before .before .before .before .args .file .now in
     let of = cache .ensures in
     λ d.
@@ -37,4 +37,4 @@ returns c =
     (sym (evicted-beyond (taskOf file) (omega (arith, of .sound .some, of .count)) d (omega (arith, of .count)))))
 
 pub evicted-lines-spec : {M : Type 1} → statement M
-evicted-lines-spec = tie.close (tie.spec cache-of-requires mark-evicted-requires cast-marked-lines marked-lines-requires returns)
+evicted-lines-spec = tie.close (tie.spec geometry-of-requires mark-evicted-requires cast-marked-lines marked-lines-requires returns)

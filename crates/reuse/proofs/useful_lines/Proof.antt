@@ -24,8 +24,8 @@ Inv-loop file k cache count held lines₀ c₀ lines c = (c ≤ count) × ((d : 
 abbrev μ-loop : tie.MeasureT-loop
 μ-loop file k cache count held lines₀ c₀ lines c = count - c
 
-cache-of-requires : tie.Need-cache-of-requires Inv-loop μ-loop
-cache-of-requires c κs = search needs
+geometry-of-requires : tie.Need-geometry-of-requires Inv-loop μ-loop
+geometry-of-requires c κs = search needs
 
 cast-count : tie.Need-cast-count Inv-loop μ-loop
 cast-count c = omega arith
@@ -62,7 +62,7 @@ unfolding useful
 loop-again c =
     let l = c .before .before .before .before .loop in
     let held = c .before .before .before .before .before .before in
-    let cache = held .before .before .cache-of in
+    let cache = held .before .before .geometry-of in
     let start = held .before .before .before .before in
     let t = taskOf (start .args .file .now) in
     let of = cache .ensures in
@@ -77,7 +77,7 @@ loop-again c =
 returns : tie.Need-returns Inv-loop μ-loop
 returns c =
     let l = c .before .loop in
-    let cache = c .before .before .before .before .before .cache-of in
+    let cache = c .before .before .before .before .before .geometry-of in
     let start = c .before .before .before .before .before .before .before in
     let t = taskOf (start .args .file .now) in
     let of = cache .ensures in
@@ -92,7 +92,7 @@ useful-lines-spec =
     (tie.spec
     Inv-loop
     μ-loop
-    cache-of-requires
+    geometry-of-requires
     cast-count
     held-after-requires
     empty-requires

@@ -39,8 +39,8 @@ Inv-loop file sets₀ cache blocks held₀ since₀ i₀ sets held since i =
 abbrev μ-loop : tie.MeasureT-loop
 μ-loop file sets₀ cache blocks held₀ since₀ i₀ sets held since i = blocks - i
 
-cache-of-requires : tie.Need-cache-of-requires Inv-loop2 μ-loop2 Inv-loop μ-loop
-cache-of-requires c κs = search needs
+geometry-of-requires : tie.Need-geometry-of-requires Inv-loop2 μ-loop2 Inv-loop μ-loop
+geometry-of-requires c κs = search needs
 
 block-count-requires : tie.Need-block-count-requires Inv-loop2 μ-loop2 Inv-loop μ-loop
 block-count-requires c κs = search needs
@@ -144,7 +144,7 @@ loop2-again c =
     let start = turn .before .before .before .before .before .before .before .before in
     let file = start .args .file .now in
     let t = taskOf file in
-    let cache = turn .before .before .before .before .before .before .cache-of in
+    let cache = turn .before .before .before .before .before .before .geometry-of in
     let number = c .before .before .read in
     let line = c .before .line-of in
     let inside : outer .i < blockCount t =
@@ -202,7 +202,7 @@ loop-again c =
 returns : tie.Need-returns Inv-loop2 μ-loop2 Inv-loop μ-loop
 returns c =
     let file = c .before .before .before .before .before .args .file .now in
-    let of = c .before .before .before .cache-of .ensures in
+    let of = c .before .before .before .geometry-of .ensures in
     let l = c .before .loop in
     let done : l .i ≡ blockCount (taskOf file) = omega arith in
     record {
@@ -221,7 +221,7 @@ walk-reads-spec =
     μ-loop2
     Inv-loop
     μ-loop
-    cache-of-requires
+    geometry-of-requires
     block-count-requires
     loop-holds
     add-k

@@ -11,7 +11,7 @@ use Rattle.model.specs.declared.Place.{Place}
 use Rattle.model.specs.declared.Refusal.the-variants.{Checksum}
 use Rattle.model.specs.declared.Verdict.the-variants.{Accepted}
 use Rattle.block.specs.Blocks.{checksumRight}
-use Rattle.block.proofs.Blocks.{scan-next, scan-here, scan-end}
+use Rattle.model.proofs.Lowest.{scan-next, scan-here, scan-end}
 use Rattle.taskfile.specs.File.{blocksIn, sumRight, checksumRow}
 use Rattle.taskfile.specs.Steps.{LeftToTest}
 use Rattle.taskfile.proofs.Frames.{length-in}

@@ -9,9 +9,9 @@ use Rattle.model.specs.Answers.{refusedAt}
 use Rattle.model.specs.declared.Place.{Place}
 use Rattle.model.specs.declared.Refusal.the-variants.{WrongBlock}
 use Rattle.model.specs.declared.Verdict.the-variants.{Accepted}
-use Rattle.block.specs.Blocks.{lowestFrom}
+use Rattle.model.specs.Lists.{lowestFrom}
 use Rattle.taskfile.specs.File.{blockRight, blockRow}
-use Rattle.block.proofs.Blocks.{scan-next, scan-here, scan-end}
+use Rattle.model.proofs.Lowest.{scan-next, scan-here, scan-end}
 use Rattle.taskfile.proofs.check_entries.Statement.{statement}
 use Rattle.taskfile.proofs.check_entries.Tie as tie
 

@@ -1,4 +1,4 @@
--- `cacheline::Cache::bypasses` meets its contract: the cache holds both ends of the range.
+-- `cacheline::Geometry::bypasses` meets its contract: the cache holds both ends of the range.
 -- Assumes nothing.
 use Prim.Native.Nat.{_+_}
 use mathlib.Core.Path.{refl, sym}
@@ -7,8 +7,8 @@ use native.Mathlib.Omega.{arith}
 use lib.Dec.{leb}
 use borrow.Author.Tests.{lt-ltb, le-ltb}
 use Rattle.model.specs.Lines.{bypasses}
-use Rattle.cacheline.proofs.Cache.bypasses.Statement.{statement}
-use Rattle.cacheline.proofs.Cache.bypasses.Tie as tie
+use Rattle.cacheline.proofs.Geometry.bypasses.Statement.{statement}
+use Rattle.cacheline.proofs.Geometry.bypasses.Tie as tie
 
 returns : tie.Need-returns
 unfolding bypasses

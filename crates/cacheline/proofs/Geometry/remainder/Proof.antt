@@ -1,10 +1,10 @@
--- `cacheline::Cache::remainder` meets its contract: the remainder is what the quotient leaves, or that less the count.
+-- `cacheline::Geometry::remainder` meets its contract: the remainder is what the quotient leaves, or that less the count.
 -- Assumes nothing.
 use native.Mathlib.Omega.{arith}
 use borrow.Author.Needs.{needs}
 use Rattle.cacheline.proofs.Remainders.{product-fits, quotient-le, rest-lt, rest-below, rest-above}
-use Rattle.cacheline.proofs.Cache.remainder.Statement.{statement}
-use Rattle.cacheline.proofs.Cache.remainder.Tie as tie
+use Rattle.cacheline.proofs.Geometry.remainder.Statement.{statement}
+use Rattle.cacheline.proofs.Geometry.remainder.Tie as tie
 
 cast-lines : tie.Need-cast-lines
 cast-lines c = search needs

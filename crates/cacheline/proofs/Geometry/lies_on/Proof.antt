@@ -1,4 +1,4 @@
--- `cacheline::Cache::lies_on` meets its contract: a memory block lies on the line of its remainder, unless it bypasses the cache.
+-- `cacheline::Geometry::lies_on` meets its contract: a memory block lies on the line of its remainder, unless it bypasses the cache.
 -- Assumes nothing.
 use Prim.Native.Nat.{ℕ, _%_}
 use mathlib.Core.Path.{_≡_, refl, sym, ap, _∙_}
@@ -9,8 +9,8 @@ use borrow.Author.Tests.{eq-eqb, ne-eqb}
 use Rattle.model.specs.Task.{Task}
 use Rattle.model.specs.Lines.{bypasses, lineOf, isLine, onLine}
 use Rattle.model.specs.declared.Mapping.the-variants.{Uncached, Cached}
-use Rattle.cacheline.proofs.Cache.lies_on.Statement.{statement}
-use Rattle.cacheline.proofs.Cache.lies_on.Tie as tie
+use Rattle.cacheline.proofs.Geometry.lies_on.Statement.{statement}
+use Rattle.cacheline.proofs.Geometry.lies_on.Tie as tie
 
 both-tests : (t : Task) (c m : ℕ) → onLine t c m ≡ (eqb c (m % t .lineCount) && not (bypasses t m))
 unfolding onLine lineOf

@@ -1,12 +1,12 @@
--- `cacheline::Cache::line_of` meets its contract: no line in the scratch range, and else the remainder.
+-- `cacheline::Geometry::line_of` meets its contract: no line in the scratch range, and else the remainder.
 -- Assumes nothing.
 use Prim.Native.Nat.{ℕ, _%_}
 use mathlib.Core.Path.{refl, sym, ap, _∙_}
 use borrow.Author.Needs.{needs}
 use Rattle.model.specs.Lines.{lineOf}
 use Rattle.model.specs.declared.Mapping.the-variants.{Cached}
-use Rattle.cacheline.proofs.Cache.line_of.Statement.{statement}
-use Rattle.cacheline.proofs.Cache.line_of.Tie as tie
+use Rattle.cacheline.proofs.Geometry.line_of.Statement.{statement}
+use Rattle.cacheline.proofs.Geometry.line_of.Tie as tie
 
 bypasses-requires : tie.Need-bypasses-requires
 bypasses-requires c κs = search needs

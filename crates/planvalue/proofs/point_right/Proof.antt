@@ -1,10 +1,10 @@
--- `planvalue::entry_right` meets its contract: an entry below the count is tested as a point, and any other for zero.
+-- `planvalue::point_right` meets its contract: an entry below the count is tested as a point, and any other for zero.
 -- Assumes nothing.
 use borrow.Author.Tests.{lt-ltb, le-ltb}
 use borrow.Author.Needs.{needs}
-use Rattle.planvalue.specs.Values.{entryRight}
-use Rattle.planvalue.proofs.entry_right.Statement.{statement}
-use Rattle.planvalue.proofs.entry_right.Tie as tie
+use Rattle.planvalue.specs.Values.{pointRight}
+use Rattle.planvalue.proofs.point_right.Statement.{statement}
+use Rattle.planvalue.proofs.point_right.Tie as tie
 
 cast-count : tie.Need-cast-count
 cast-count c = search needs
@@ -22,7 +22,7 @@ right-point-requires : tie.Need-right-point-requires
 right-point-requires c κs = search needs
 
 returns : tie.Need-returns
-unfolding entryRight
+unfolding pointRight
 returns c =
     rw (c .right-point .ensures, c .before .point-before .ensures, lt-ltb _ _ (c .before .before .if1 .taken))
 
@@ -33,11 +33,11 @@ array-read-result : tie.Need-array-read-result
 array-read-result c = search needs
 
 returns-2 : tie.Need-returns-2
-unfolding entryRight
+unfolding pointRight
 returns-2 c = rw (le-ltb _ _ (c .if1 .left))
 
-pub entry-right-spec : {M : Type 1} → statement M
-entry-right-spec =
+pub point-right-spec : {M : Type 1} → statement M
+point-right-spec =
     tie.close
     (tie.spec
     cast-count

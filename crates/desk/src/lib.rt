@@ -73,11 +73,11 @@ pub fn argument(i: usize, most: u64) -> Decimal
     Decimal::Number(number)
 }
 
-// Puts the numbers that the arguments give into a list, and answers whether they are numbers, and as many as the list holds.
-pub fn arguments(numbers: &mut [u64]) -> bool {
+// Puts the numbers that the arguments give into a list, and answers whether they are numbers of at most so much, and as many as the list holds.
+pub fn arguments(numbers: &mut [u64], most: u64) -> bool {
     let mut i = 0;
     while i < numbers.len() {
-        let Decimal::Number(number) = argument(i + 1, 0xffff_ffff_ffff_ffff) else {
+        let Decimal::Number(number) = argument(i + 1, most) else {
             return false;
         };
         numbers[i] = number;

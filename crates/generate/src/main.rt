@@ -1,22 +1,10 @@
 // Writes the task file of a seed, N, M, S, Q and R, which the arguments give, to standard output; a refusal goes to standard error.
 ghost use Prim.Native.Nat.{_≤_};
-use desk::Decimal;
 use model::Verdict;
 
-// Puts the six arguments into a list, and answers whether they are six numbers of four bytes.
-fn read_numbers(numbers: &mut [u32; 6]) -> bool {
-    if os::arg_count() != 7 {
-        return false;
-    }
-    let mut i = 0;
-    while i < 6 {
-        let Decimal::Number(number) = desk::argument(i + 1, 4294967295) else {
-            return false;
-        };
-        numbers[i] = number as u32;
-        i += 1;
-    }
-    true
+// A number below 2^32, which each argument is asked to be, in four bytes.
+fn four_bytes(number: u64) -> u32 {
+    (number % 4294967296) as u32
 }
 
 // The bytes of a file with so many blocks, or of the largest buffer where there are more than that has room for.
@@ -28,14 +16,14 @@ fn file_length(blocks: u32, preempters: u32) -> usize
 }
 
 // Writes the file, or says why there is none.
-fn write_file(numbers: [u32; 6], file: &mut [u8]) {
+fn write_file(given: [u64; 6], file: &mut [u8]) {
     let verdict = testload::generate(
-        numbers[0],
-        numbers[1],
-        numbers[2],
-        numbers[3],
-        numbers[4],
-        numbers[5],
+        four_bytes(given[0]),
+        four_bytes(given[1]),
+        four_bytes(given[2]),
+        four_bytes(given[3]),
+        four_bytes(given[4]),
+        four_bytes(given[5]),
         file,
     );
     match verdict {
@@ -45,12 +33,12 @@ fn write_file(numbers: [u32; 6], file: &mut [u8]) {
 }
 
 fn main() {
-    let mut numbers = [0u32; 6];
-    if !read_numbers(&mut numbers) {
+    let mut given = [0u64; 6];
+    if !desk::arguments(&mut given, 4294967295) {
         desk::print_usage(b"generate SEED N M S Q R");
         return;
     }
     let mut file = io::large_buffer();
-    let n = file_length(numbers[1], numbers[2]);
-    write_file(numbers, &mut file[..n]);
+    let n = file_length(four_bytes(given[1]), four_bytes(given[2]));
+    write_file(given, &mut file[..n]);
 }

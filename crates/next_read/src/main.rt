@@ -28,7 +28,7 @@ fn print_answer(file: &[u8], line: usize, k: usize) {
 
 fn main() {
     let mut given = [0u64; 2];
-    if !desk::arguments(&mut given) {
+    if !desk::arguments(&mut given, 0xffff_ffff_ffff_ffff) {
         desk::print_usage(b"next_read LINE K < FILE");
         return;
     }

@@ -20,7 +20,7 @@ fn print_answer(file: &[u8], k: usize) {
 
 fn main() {
     let mut given = [0u64; 1];
-    if !desk::arguments(&mut given) {
+    if !desk::arguments(&mut given, 0xffff_ffff_ffff_ffff) {
         desk::print_usage(b"useful K < FILE");
         return;
     }

@@ -7,10 +7,10 @@ use Rattle.desk.proofs.arguments.Statement.{statement}
 use Rattle.desk.proofs.arguments.Tie as tie
 
 abbrev Inv-loop : tie.InvT-loop
-Inv-loop numbers₀ i₀ numbers i = (length numbers ≡ length numbers₀) × (i ≤ length numbers₀)
+Inv-loop numbers₀ most i₀ numbers i = (length numbers ≡ length numbers₀) × (i ≤ length numbers₀)
 
 abbrev μ-loop : tie.MeasureT-loop
-μ-loop numbers₀ i₀ numbers i = length numbers₀ - i
+μ-loop numbers₀ most i₀ numbers i = length numbers₀ - i
 
 loop-holds : tie.Need-loop-holds Inv-loop μ-loop
 loop-holds c = search needs

@@ -5,8 +5,11 @@ use borrow.Author.Needs.{needs}
 use Rattle.generate.proofs.main.Statement.{statement}
 use Rattle.generate.proofs.main.Tie as tie
 
-read-numbers-requires : tie.Need-read-numbers-requires
-read-numbers-requires c κs = search needs
+slice-aggregate-arguments : tie.Need-slice-aggregate-arguments
+slice-aggregate-arguments c = search needs
+
+arguments-requires : tie.Need-arguments-requires
+arguments-requires c κs = search needs
 
 slice-aggregate-print-usage : tie.Need-slice-aggregate-print-usage
 slice-aggregate-print-usage c = search needs
@@ -20,11 +23,17 @@ returns c = search needs
 large-buffer-requires : tie.Need-large-buffer-requires
 large-buffer-requires c κs = search needs
 
-array-read-file-length : tie.Need-array-read-file-length
-array-read-file-length c = search needs
+array-read-four-bytes : tie.Need-array-read-four-bytes
+array-read-four-bytes c = search needs
 
-array-read-file-length-2 : tie.Need-array-read-file-length-2
-array-read-file-length-2 c = search needs
+four-bytes-requires : tie.Need-four-bytes-requires
+four-bytes-requires c κs = search needs
+
+array-read-four-bytes-2 : tie.Need-array-read-four-bytes-2
+array-read-four-bytes-2 c = search needs
+
+four-bytes-requires-2 : tie.Need-four-bytes-requires-2
+four-bytes-requires-2 c κs = search needs
 
 file-length-requires : tie.Need-file-length-requires
 file-length-requires c κs = search needs
@@ -45,13 +54,16 @@ pub main-spec : {M : Type 1} → statement M
 main-spec =
     tie.close
     (tie.spec
-    read-numbers-requires
+    slice-aggregate-arguments
+    arguments-requires
     slice-aggregate-print-usage
     print-usage-requires
     returns
     large-buffer-requires
-    array-read-file-length
-    array-read-file-length-2
+    array-read-four-bytes
+    four-bytes-requires
+    array-read-four-bytes-2
+    four-bytes-requires-2
     file-length-requires
     array-borrow-prefix-file
     slice-aggregate-write-file

@@ -1,4 +1,6 @@
-# Says which names in docs/TRACE.md the tree does not have. The forms of a name are in the table at the top of that page.
+# Says which names in docs/TRACE.md the tree does not have, and which must-fail edits no row of it names. The forms of a name are in the table at
+# the top of that page.
+import glob
 import os
 import re
 import sys
@@ -57,9 +59,13 @@ def main():
     # names after one of these words, or after a program's name, are of that kind up to the next ; or |
     for kind, names in re.findall(r"(edits? |statements? |laws? |cases? (?:of )?|`\w+`: )?((?:`[^`|]+`(?:, )?)+)", rows):
         missing += [f"{kind}{name}" for name in re.findall(r"`([^`]+)`", names) if not stands(kind, name)]
+    edits = [path.replace("/must-fail/", "/")[:-len(".edit")] for path in sorted(glob.glob("*/must-fail/*.edit", root_dir=CRATES))]
+    unnamed = [edit for edit in edits if f"`{edit}`" not in rows]
     for name in dict.fromkeys(missing):
         print("not in the tree:", name)
-    sys.exit(1 if missing else 0)
+    for edit in unnamed:
+        print("in no row:", edit)
+    sys.exit(1 if missing or unnamed else 0)
 
 
 if __name__ == "__main__":

@@ -1,4 +1,4 @@
-// A set of cache lines in eight words: line c is bit c mod 64 of word c div 64.
+// A set of cache lines in eight words of 64 bits, line 0 in the lowest bit of the first.
 ghost use mathlib.Core.Bool.{false, cond, _&&_, _||_};
 ghost use mathlib.Core.Path.{_≡_};
 ghost use Prim.Native.Nat.{ℕ};

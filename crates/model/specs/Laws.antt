@@ -19,7 +19,7 @@ use Rattle.model.specs.declared.Mapping.the-variants.{Cached}
 use Rattle.model.specs.declared.Plan.{Plan}
 use Rattle.model.specs.declared.Verdict.{Verdict}
 
--- line c is bit c mod 64 of word c div 64
+-- a set's words tell of every line below 512 whether it is a member
 abbrev pub WordsHold : Type 0
 WordsHold = (s : Lines) (c : ℕ) → c < 512 → inWords (words s) c ≡ s c
 
@@ -28,7 +28,7 @@ unfoldable pub oneBits : List ℕ → ℕ
 oneBits [] = 0
 oneBits (w ∷ ws) = ones w + oneBits ws
 
--- the size of a set is the number of its one bits
+-- counting the one bits of a set's words counts its lines
 abbrev pub SizeIsOnes : Type 0
 SizeIsOnes = (s : Lines) → size s ≡ oneBits (words s)
 

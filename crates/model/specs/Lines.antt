@@ -1,4 +1,4 @@
--- The lines of a task (document 01, "Lines"; 003's reaching and live states on a straight line; 004, equation 7).
+-- The lines of a task (document 01, "Lines"; 003's reaching and live states on a straight line).
 -- Assumes nothing.
 use Prim.Native.Nat.{ℕ, zero, suc, _+_, _%_}
 use mathlib.Core.Bool.{Bool, false, cond, _&&_, _||_}

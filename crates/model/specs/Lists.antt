@@ -48,7 +48,7 @@ lowestFrom f a (suc n) = cond (f a) (lowestFrom f (suc a) n) (At a)
 abbrev pub rightPoint : ℕ → ℕ → ℕ → Bool
 rightPoint n a p = ltb a p && ltb p n
 
--- points are rising numbers from 1 to n - 1
+-- each point is right after the one before it: a well-formed list
 abbrev pub wellFormed : ℕ → List ℕ → Bool
 wellFormed n ps = every (rightPoint n) (steps 0 ps)
 

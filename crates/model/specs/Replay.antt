@@ -1,4 +1,4 @@
--- Replay of the reads (document 02, item 4): a cache starts empty, the blocks are read one after another, and the misses are counted.
+-- Replay of the reads (document 02, item 4): block after block, each read looked up in a cache that holds nothing at first, and the misses counted.
 -- Assumes nothing.
 use Prim.Native.Nat.{ℕ, suc, _+_}
 use mathlib.Core.Bool.{Bool, false, not, cond}
@@ -15,11 +15,11 @@ use Rattle.model.specs.declared.Mapping.the-variants.{Uncached, Cached}
 abbrev pub Cache : Type 0
 Cache = ℕ → Line
 
--- the cache that a replay starts with
+-- before the first read no line holds a number
 abbrev pub emptyCache : Cache
 emptyCache c = Empty
 
--- a read is a hit if its line holds its number, otherwise a miss; a read of a number on no line is neither (document 02, item 5)
+-- a read misses unless its line holds its number; one that lies on no line neither hits nor misses (document 02, item 5)
 abbrev pub missAt : Cache → ℕ → Mapping → Bool
 missAt s m Uncached = false
 missAt s m (Cached c) = not (sameBlock (s c) (Held m))
@@ -27,7 +27,7 @@ missAt s m (Cached c) = not (sameBlock (s c) (Held m))
 unfoldable pub miss : Task → Cache → ℕ → Bool
 miss t s m = missAt s m (lineOf t m)
 
--- either way the line then holds it
+-- the cache after a read, hit or miss
 unfoldable pub fetch : Task → Cache → ℕ → Cache
 fetch t s m c = cond (onLine t c m) (Held m) (s c)
 
@@ -41,11 +41,11 @@ unfoldable pub after : Task → Cache → List ℕ → Cache
 after t s [] = s
 after t s (m ∷ ms) = after t (fetch t s m) ms
 
--- each line of h becomes empty
+-- a cache that has lost the lines of h
 unfoldable pub emptied : Lines → Cache → Cache
 emptied h s c = cond (h c) Empty (s c)
 
--- at each point every line of H becomes empty
+-- the cache behind edge k: preemption at a point loses the lines of H
 unfoldable pub atEdge : Task → List ℕ → ℕ → Cache → Cache
 atEdge t ps k s = cond (listed ps k) (emptied (evicted t) s) s
 

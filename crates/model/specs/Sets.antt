@@ -36,7 +36,7 @@ unfoldable pub digitsBelow : ℕ → Lines → ℕ
 digitsBelow zero s = 0
 digitsBelow (suc n) s = digitsBelow n s + bit (s n) * 2 ^ n
 
--- word w of a set: line c is bit c mod 64 of word c div 64
+-- word w of a set has a bit for each of 64 lines, the lowest line in the lowest bit
 unfoldable pub word : Lines → ℕ → ℕ
 word s w = digitsBelow 64 (λ j. s (w * 64 + j))
 

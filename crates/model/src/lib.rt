@@ -40,7 +40,7 @@ pub enum Place {
     At(usize),
 }
 
-// What a call answers where it has no value to give beside it.
+// Whether a call accepts what it is handed, or why not; an answer with a value has its verdict beside it.
 pub enum Verdict {
     Accepted,
     Refused(Refusal),

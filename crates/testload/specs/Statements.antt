@@ -7,7 +7,7 @@ use Rattle.taskfile.specs.File.{taskOf, IsAccepted}
 use Rattle.testload.specs.Draws.{drawnTask}
 use Rattle.testload.specs.Calls.{generateVerdict, generated}
 
--- every file made is accepted by the reader, and its task is the drawn one
+-- what a seed makes is a task file, of the task that the seed draws
 abbrev pub GeneratedAccepted : Type 0
 GeneratedAccepted =
     (seed n m s q r : ℕ) (out : List ℕ) → seed < 2 ^ 32 → q < 2 ^ 32 → r < 2 ^ 32 → generateVerdict n m s out ≡ Accepted

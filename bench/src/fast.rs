@@ -2,6 +2,7 @@
 //! is left to a method: `line_sets` or `by_line`.
 
 use crate::checks::{check_of, lowest_wrong};
+use calls::{Refusal, Returned};
 
 pub const BLOCK: usize = 512;
 pub const MOST_BASIC: usize = 64;
@@ -19,8 +20,11 @@ fn all_zero(bytes: &[u8]) -> bool {
     bytes.iter().fold(0, |all, b| all | b) == 0
 }
 
-pub fn code(number: u32, place: usize) -> u32 {
-    number << 16 | place as u32
+pub fn refusal(number: u32, place: usize) -> Refusal {
+    Refusal {
+        number,
+        place: place as u32,
+    }
 }
 
 /// m mod S by one reciprocal; no line in the range, which one comparison tells.
@@ -92,13 +96,13 @@ pub trait Method {
     fn lines(&self, a: usize, b: usize) -> u64;
 }
 
-pub fn open(file: &[u8]) -> Result<Task<'_>, u32> {
+pub fn open(file: &[u8]) -> Result<Task<'_>, Refusal> {
     let count = file.len() / BLOCK;
     if count == 0 || file.len() % BLOCK != 0 || count > MOST_BLOCKS {
-        return Err(code(1, 0));
+        return Err(refusal(1, 0));
     }
     if let Some(i) = lowest_wrong(file) {
-        return Err(code(2, i));
+        return Err(refusal(2, i));
     }
     let (header, rest) = file.split_at(BLOCK);
     let (n, m, s) = (get16(header, 2), get16(header, 4), get16(header, 6));
@@ -113,10 +117,10 @@ pub fn open(file: &[u8]) -> Result<Task<'_>, u32> {
         || scratch.0 as u64 + scratch.1 as u64 > 1 << 32
         || !all_zero(&header[28..508])
     {
-        return Err(code(3, 0));
+        return Err(refusal(3, 0));
     }
     if count != 1 + n + m {
-        return Err(code(4, 0));
+        return Err(refusal(4, 0));
     }
     for (i, block) in rest.chunks_exact(BLOCK).enumerate() {
         let r = get16(block, 2);
@@ -127,7 +131,7 @@ pub fn open(file: &[u8]) -> Result<Task<'_>, u32> {
             || get32(block, 504) as usize != i + 1
             || !all_zero(&block[8 + 4 * r..504])
         {
-            return Err(code(5, i + 1));
+            return Err(refusal(5, i + 1));
         }
     }
     let (blocks, interrupters) = rest.split_at(n * BLOCK);
@@ -189,7 +193,7 @@ fn choose<M: Method>(task: &Task, method: &M) -> Option<(Points, u64)> {
     Some((points, least[0]))
 }
 
-fn price_list<M: Method>(task: &Task, method: &M, points: &Points) -> Result<u64, u32> {
+fn price_list<M: Method>(task: &Task, method: &M, points: &Points) -> Result<u64, Refusal> {
     let mut whole = 0;
     let mut a = 0;
     for i in 0..=points.count {
@@ -201,7 +205,7 @@ fn price_list<M: Method>(task: &Task, method: &M, points: &Points) -> Result<u64
         let lines = method.lines(a, b);
         let times: u64 = (a + 1..=b).map(|k| task.time(k)).sum();
         if times + task.reload * lines > task.limit {
-            return Err(code(8, i));
+            return Err(refusal(8, i));
         }
         whole += lines;
         a = b;
@@ -227,12 +231,12 @@ fn store(task: &Task, points: &Points, lines: u64, block: &mut [u8]) {
     block[508..].copy_from_slice(&check.to_le_bytes());
 }
 
-fn read_points(block: &[u8]) -> Result<Points, u32> {
+fn read_points(block: &[u8]) -> Result<Points, Refusal> {
     if block.len() != BLOCK {
-        return Err(code(1, 97));
+        return Err(refusal(1, 97));
     }
     if check_of(block) != get32(block, 508) {
-        return Err(code(2, 97));
+        return Err(refusal(2, 97));
     }
     let (n, count) = (get16(block, 2), get16(block, 4));
     if block[0] != 4
@@ -242,7 +246,7 @@ fn read_points(block: &[u8]) -> Result<Points, u32> {
         || count >= n
         || !all_zero(&block[20 + 2 * count..508])
     {
-        return Err(code(5, 97));
+        return Err(refusal(5, 97));
     }
     let mut points = Points {
         count,
@@ -252,7 +256,7 @@ fn read_points(block: &[u8]) -> Result<Points, u32> {
     for (i, p) in block[20..20 + 2 * count].chunks_exact(2).enumerate() {
         let p = u16::from_le_bytes([p[0], p[1]]);
         if p <= before || p as usize >= n {
-            return Err(code(5, 97));
+            return Err(refusal(5, 97));
         }
         points.list[i] = p;
         before = p;
@@ -260,21 +264,21 @@ fn read_points(block: &[u8]) -> Result<Points, u32> {
     Ok(points)
 }
 
-fn try_plan<M: Method>(file: &[u8], block: &mut [u8]) -> Result<(), u32> {
+pub fn plan<M: Method>(file: &[u8], block: &mut [u8]) -> Returned {
     if block.len() != BLOCK {
-        return Err(code(9, 0));
+        return Err(refusal(9, 0));
     }
     let task = open(file)?;
     let mut method = M::walk(&task);
     method.prepare();
-    let (points, lines) = choose(&task, &method).ok_or(code(6, 0))?;
+    let (points, lines) = choose(&task, &method).ok_or(refusal(6, 0))?;
     store(&task, &points, lines, block);
     Ok(())
 }
 
-fn try_price<M: Method>(file: &[u8], first: &[u8], block: &mut [u8]) -> Result<(), u32> {
+pub fn price<M: Method>(file: &[u8], first: &[u8], block: &mut [u8]) -> Returned {
     if block.len() != BLOCK {
-        return Err(code(9, 0));
+        return Err(refusal(9, 0));
     }
     let task = open(file)?;
     let points = read_points(first)?;
@@ -282,18 +286,10 @@ fn try_price<M: Method>(file: &[u8], first: &[u8], block: &mut [u8]) -> Result<(
         .iter()
         .position(|&p| p as usize >= task.n)
     {
-        return Err(code(7, i));
+        return Err(refusal(7, i));
     }
     let method = M::walk(&task);
     let lines = price_list(&task, &method, &points)?;
     store(&task, &points, lines, block);
     Ok(())
-}
-
-pub fn plan<M: Method>(file: &[u8], block: &mut [u8]) -> u32 {
-    try_plan::<M>(file, block).err().unwrap_or(0)
-}
-
-pub fn price<M: Method>(file: &[u8], points: &[u8], block: &mut [u8]) -> u32 {
-    try_price::<M>(file, points, block).err().unwrap_or(0)
 }

@@ -1,6 +1,8 @@
 //! Files from a seed, in plain Rust: every byte is written once, and four checks run side by side.
 
 use crate::checks::store_checks;
+use crate::fast::refusal;
+use calls::Returned;
 
 const BLOCK: usize = 512;
 
@@ -34,12 +36,12 @@ fn entry(source: &mut Source, block: &mut [u8], kind: u8, word: u32, number: usi
     close(block, 8 + 4 * r, number);
 }
 
-pub fn generate(seed: u32, n: u32, m: u32, s: u32, q: u32, r: u32, out: &mut [u8]) -> u32 {
+pub fn generate(seed: u32, n: u32, m: u32, s: u32, q: u32, r: u32, out: &mut [u8]) -> Returned {
     if n < 1 || n > 64 || m > 32 || s < 1 || s > 512 {
-        return 10 << 16;
+        return Err(refusal(10, 0));
     }
     if out.len() != BLOCK * (1 + n as usize + m as usize) {
-        return 9 << 16;
+        return Err(refusal(9, 0));
     }
     let (header, entries) = out.split_at_mut(BLOCK);
     put(header, 0, &[1, 0]);
@@ -60,5 +62,5 @@ pub fn generate(seed: u32, n: u32, m: u32, s: u32, q: u32, r: u32, out: &mut [u8
         }
     }
     store_checks(out);
-    0
+    Ok(())
 }

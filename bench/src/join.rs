@@ -1,7 +1,8 @@
 //! Two files joined, in plain Rust: every byte is copied once, and four checks run side by side.
 
 use crate::checks::store_checks;
-use crate::fast::{code, open, BLOCK, MOST_BASIC};
+use crate::fast::{open, refusal, BLOCK, MOST_BASIC};
+use calls::{Refusal, Returned};
 
 fn put(block: &mut [u8], at: usize, bytes: &[u8]) {
     block[at..at + bytes.len()].copy_from_slice(bytes);
@@ -16,28 +17,26 @@ fn parts(file: &[u8], n: usize) -> (&[u8], &[u8]) {
     file[BLOCK..].split_at(n * BLOCK)
 }
 
-pub fn join(first: &[u8], second: &[u8], out: &mut [u8]) -> u32 {
-    let one = match open(first) {
-        Ok(task) => parts(first, task.n),
-        Err(code) => return code,
+pub fn join(first: &[u8], second: &[u8], out: &mut [u8]) -> Returned {
+    let one = parts(first, open(first)?.n);
+    let in_second = |Refusal { number, place }| Refusal {
+        number,
+        place: place + 97,
     };
-    let other = match open(second) {
-        Ok(task) => parts(second, task.n),
-        Err(code) => return code + 97,
-    };
+    let other = parts(second, open(second).map_err(in_second)?.n);
     if [6..8, 12..16, 20..28]
         .into_iter()
         .any(|field| first[field.clone()] != second[field])
     {
-        return code(11, 0);
+        return Err(refusal(11, 0));
     }
     let n = (one.0.len() + other.0.len()) / BLOCK;
     let m = (one.1.len() + other.1.len()) / BLOCK;
     if n > MOST_BASIC || m > 32 {
-        return code(12, 0);
+        return Err(refusal(12, 0));
     }
     if out.len() != BLOCK * (1 + n + m) {
-        return code(9, 0);
+        return Err(refusal(9, 0));
     }
     let mut at = 0;
     for part in [&first[..BLOCK], one.0, other.0, one.1, other.1] {
@@ -51,5 +50,5 @@ pub fn join(first: &[u8], second: &[u8], out: &mut [u8]) -> u32 {
         put(block, 504, &(i as u32).to_le_bytes());
     }
     store_checks(out);
-    0
+    Ok(())
 }

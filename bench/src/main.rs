@@ -13,123 +13,26 @@ mod replays;
 mod searches;
 
 use by_line::ByLine;
+use calls::Returned;
 use checks::lowest_wrong;
 use files::{drawn, reread, seven, Again, Shape};
 use line_sets::LineSets;
 use std::hint::black_box;
 use std::time::{Duration, Instant};
 
-extern "C" {
-    fn preempt_plan(file: *const u8, file_len: usize, block: *mut u8, block_len: usize) -> u32;
-    fn preempt_price(
-        file: *const u8,
-        file_len: usize,
-        points: *const u8,
-        points_len: usize,
-        block: *mut u8,
-        block_len: usize,
-    ) -> u32;
-    fn probe_next_read(
-        file: *const u8,
-        file_len: usize,
-        line: usize,
-        k: usize,
-        out: *mut u8,
-        out_len: usize,
-    ) -> u32;
-    fn probe_useful(
-        file: *const u8,
-        file_len: usize,
-        k: usize,
-        out: *mut u8,
-        out_len: usize,
-    ) -> u32;
-    fn probe_replay(
-        file: *const u8,
-        file_len: usize,
-        points: *const u16,
-        points_len: usize,
-        out: *mut u8,
-        out_len: usize,
-    ) -> u32;
-    fn probe_generate(
-        seed: u32,
-        n: u32,
-        m: u32,
-        s: u32,
-        q: u32,
-        r: u32,
-        out: *mut u8,
-        out_len: usize,
-    ) -> u32;
-    fn probe_join(
-        first: *const u8,
-        first_len: usize,
-        second: *const u8,
-        second_len: usize,
-        out: *mut u8,
-        out_len: usize,
-    ) -> u32;
-}
-
 const ROUNDS: usize = 151;
 /// One sample lasts at least about this long.
 const SAMPLE: Duration = Duration::from_micros(400);
 
-fn planner_plan(file: &[u8], block: &mut [u8]) -> u32 {
-    unsafe { preempt_plan(file.as_ptr(), file.len(), block.as_mut_ptr(), block.len()) }
+/// Lets no work be left out because nobody looks at what it gives.
+fn keep<T>(value: T) {
+    let _ = black_box(value);
 }
 
-fn planner_price(file: &[u8], points: &[u8], block: &mut [u8]) -> u32 {
-    unsafe {
-        preempt_price(
-            file.as_ptr(),
-            file.len(),
-            points.as_ptr(),
-            points.len(),
-            block.as_mut_ptr(),
-            block.len(),
-        )
-    }
-}
-
-fn planner_next_read(file: &[u8], line: usize, k: usize, out: &mut [u8]) -> u32 {
-    let (at, len) = (out.as_mut_ptr(), out.len());
-    unsafe { probe_next_read(file.as_ptr(), file.len(), line, k, at, len) }
-}
-
-fn planner_useful(file: &[u8], k: usize, out: &mut [u8]) -> u32 {
-    unsafe { probe_useful(file.as_ptr(), file.len(), k, out.as_mut_ptr(), out.len()) }
-}
-
-fn planner_replay(file: &[u8], points: &[u16], out: &mut [u8]) -> u32 {
-    let (at, len) = (out.as_mut_ptr(), out.len());
-    unsafe {
-        probe_replay(
-            file.as_ptr(),
-            file.len(),
-            points.as_ptr(),
-            points.len(),
-            at,
-            len,
-        )
-    }
-}
-
-fn planner_generate(seed: u32, n: u32, m: u32, out: &mut [u8]) -> u32 {
-    unsafe { probe_generate(seed, n, m, 512, 5000, 10, out.as_mut_ptr(), out.len()) }
-}
-
-fn planner_join(first: &[u8], second: &[u8], out: &mut [u8]) -> u32 {
-    unsafe {
-        probe_join(
-            first.as_ptr(),
-            first.len(),
-            second.as_ptr(),
-            second.len(),
-            out.as_mut_ptr(),
-            out.len(),
-        )
+fn said(returned: Returned) -> String {
+    match returned {
+        Ok(()) => "0".to_string(),
+        Err(refusal) => format!("{} at {}", refusal.number, refusal.place),
     }
 }
 
@@ -168,13 +71,13 @@ fn row(name: &str, file: &[u8]) {
     let mut blocks = [[0u8; 512]; 3];
     let [ours, sets, lines] = &mut blocks;
     let plans = [
-        planner_plan(file, ours),
+        calls::plan(file, ours),
         fast::plan::<LineSets>(file, sets),
         fast::plan::<ByLine>(file, lines),
     ];
     let points = *sets;
     let prices = [
-        planner_price(file, &points, ours),
+        calls::price(file, &points, ours),
         fast::price::<LineSets>(file, &points, sets),
         fast::price::<ByLine>(file, &points, lines),
     ];
@@ -185,8 +88,8 @@ fn row(name: &str, file: &[u8]) {
     println!(
         "{name}: {} blocks, {count} points, returns {} and {}{}",
         file.len() / 512,
-        plans[0],
-        prices[0],
+        said(plans[0]),
+        said(prices[0]),
         if same { "" } else { ", ANSWERS DIFFER" }
     );
 
@@ -197,24 +100,24 @@ fn row(name: &str, file: &[u8]) {
     }]);
     let plan = medians([
         &mut || {
-            black_box(planner_plan(file(), ours));
+            keep(calls::plan(file(), ours));
         },
         &mut || {
-            black_box(fast::plan::<LineSets>(file(), sets));
+            keep(fast::plan::<LineSets>(file(), sets));
         },
         &mut || {
-            black_box(fast::plan::<ByLine>(file(), lines));
+            keep(fast::plan::<ByLine>(file(), lines));
         },
     ]);
     let price = medians([
         &mut || {
-            black_box(planner_price(file(), points(), ours));
+            keep(calls::price(file(), points(), ours));
         },
         &mut || {
-            black_box(fast::price::<LineSets>(file(), points(), sets));
+            keep(fast::price::<LineSets>(file(), points(), sets));
         },
         &mut || {
-            black_box(fast::price::<ByLine>(file(), points(), lines));
+            keep(fast::price::<ByLine>(file(), points(), lines));
         },
     ]);
     for (call, [ours, sets, lines]) in [("plan", plan), ("price", price)] {
@@ -243,9 +146,9 @@ fn search_row(name: &str, file: &[u8], line: usize, k: usize) {
     let mut sets = [[0u8; 64]; 3];
     let [ours, searched, walked] = &mut sets;
     let codes = [
-        planner_next_read(file, line, k, our_found),
+        calls::next_read(file, line, k, our_found),
         searches::next_read(file, line, k, found),
-        planner_useful(file, k, ours),
+        calls::useful(file, k, ours),
         searches::searched(file, k, searched),
         searches::walked(file, k, walked),
     ];
@@ -272,21 +175,21 @@ fn search_row(name: &str, file: &[u8], line: usize, k: usize) {
     }]);
     let search = medians([
         &mut || {
-            black_box(planner_next_read(file(), line(), k(), our_found));
+            keep(calls::next_read(file(), line(), k(), our_found));
         },
         &mut || {
-            black_box(searches::next_read(file(), line(), k(), found));
+            keep(searches::next_read(file(), line(), k(), found));
         },
     ]);
     let useful = medians([
         &mut || {
-            black_box(planner_useful(file(), k(), ours));
+            keep(calls::useful(file(), k(), ours));
         },
         &mut || {
-            black_box(searches::searched(file(), k(), searched));
+            keep(searches::searched(file(), k(), searched));
         },
         &mut || {
-            black_box(searches::walked(file(), k(), walked));
+            keep(searches::walked(file(), k(), walked));
         },
     ]);
     println!(
@@ -315,7 +218,7 @@ fn replay_row(name: &str, file: &[u8], points: &[u16]) {
     let mut counts = [[0u8; 16]; 3];
     let [ours, walked, cached] = &mut counts;
     let codes = [
-        planner_replay(file, points, ours),
+        calls::replay(file, points, ours),
         replays::one_walk(file, points, walked),
         replays::two_caches(file, points, cached),
     ];
@@ -336,13 +239,13 @@ fn replay_row(name: &str, file: &[u8], points: &[u16]) {
     }]);
     let replay = medians([
         &mut || {
-            black_box(planner_replay(file(), points(), ours));
+            keep(calls::replay(file(), points(), ours));
         },
         &mut || {
-            black_box(replays::one_walk(file(), points(), walked));
+            keep(replays::one_walk(file(), points(), walked));
         },
         &mut || {
-            black_box(replays::two_caches(file(), points(), cached));
+            keep(replays::two_caches(file(), points(), cached));
         },
     ]);
     println!(
@@ -366,24 +269,20 @@ fn generate_row(name: &str, n: u32, m: u32) {
     let mut files = [(); 2].map(|_| vec![0xFF; 512 * (1 + n + m) as usize]);
     let [ours, plain] = &mut files;
     let codes = [
-        planner_generate(7, n, m, ours),
+        calls::generate([7, n, m, 512, 5000, 10], ours),
         generate::generate(7, n, m, 512, 5000, 10, plain),
     ];
-    let same = codes == [0, 0] && ours == plain;
+    let same = codes == [Ok(()); 2] && ours == plain;
     let (mut ours_seed, mut plain_seed) = (0, 0);
     let [planner, rust] = medians([
         &mut || {
             ours_seed += 1;
-            black_box(planner_generate(
-                black_box(ours_seed),
-                n,
-                m,
-                black_box(ours),
-            ));
+            let numbers = [black_box(ours_seed), n, m, 512, 5000, 10];
+            keep(calls::generate(numbers, black_box(ours)));
         },
         &mut || {
             plain_seed += 1;
-            black_box(generate::generate(
+            keep(generate::generate(
                 black_box(plain_seed),
                 n,
                 m,
@@ -406,20 +305,20 @@ fn join_row(name: &str, first: &[u8], second: &[u8]) {
     let mut files = [(); 2].map(|_| vec![0xFF; first.len() + second.len() - 512]);
     let [ours, plain] = &mut files;
     let codes = [
-        planner_join(first, second, ours),
+        calls::join(first, second, ours),
         join::join(first, second, plain),
     ];
-    let same = codes == [0, 0] && ours == plain;
+    let same = codes == [Ok(()); 2] && ours == plain;
     let (first, second) = (|| black_box(first), || black_box(second));
     let [checks] = medians([&mut || {
         black_box([lowest_wrong(first()), lowest_wrong(second())]);
     }]);
     let [planner, rust] = medians([
         &mut || {
-            black_box(planner_join(first(), second(), black_box(ours)));
+            keep(calls::join(first(), second(), black_box(ours)));
         },
         &mut || {
-            black_box(join::join(first(), second(), black_box(plain)));
+            keep(join::join(first(), second(), black_box(plain)));
         },
     ]);
     println!(

@@ -1,6 +1,7 @@
 //! The misses of a file's reads, alone and with points, in plain Rust.
 
-use crate::fast::{code, numbers, open, Task};
+use crate::fast::{numbers, open, refusal, Task};
+use calls::Returned;
 
 fn struck_lines(task: &Task) -> [bool; 512] {
     let mut struck = [false; 512];
@@ -85,27 +86,24 @@ fn answer(
     points: &[u16],
     out: &mut [u8],
     count: impl Fn(&Task, &[u16]) -> [u64; 2],
-) -> u32 {
+) -> Returned {
     if out.len() != 16 {
-        return code(9, 0);
+        return Err(refusal(9, 0));
     }
-    let task = match open(file) {
-        Err(refusal) => return refusal,
-        Ok(task) => task,
-    };
+    let task = open(file)?;
     if let Some(i) = wrong_point(task.n, points) {
-        return code(7, i);
+        return Err(refusal(7, i));
     }
     for (place, misses) in out.chunks_exact_mut(8).zip(count(&task, points)) {
         place.copy_from_slice(&misses.to_le_bytes());
     }
-    0
+    Ok(())
 }
 
-pub fn one_walk(file: &[u8], points: &[u16], out: &mut [u8]) -> u32 {
+pub fn one_walk(file: &[u8], points: &[u16], out: &mut [u8]) -> Returned {
     answer(file, points, out, by_one_walk)
 }
 
-pub fn two_caches(file: &[u8], points: &[u16], out: &mut [u8]) -> u32 {
+pub fn two_caches(file: &[u8], points: &[u16], out: &mut [u8]) -> Returned {
     answer(file, points, out, by_two_caches)
 }

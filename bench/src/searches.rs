@@ -1,6 +1,7 @@
 //! The next read of a line and the useful lines of an edge in plain Rust.
 
-use crate::fast::{code, numbers, open, Task};
+use crate::fast::{numbers, open, refusal, Task};
+use calls::Returned;
 
 /// The next read of a line after block k, and how many reads were looked at.
 fn search(task: &Task, line: usize, k: usize) -> (Option<u32>, usize) {
@@ -73,21 +74,19 @@ fn answer<const W: usize>(
     k: usize,
     out: &mut [u8],
     words: impl Fn(&Task) -> [u64; W],
-) -> u32 {
+) -> Returned {
     if out.len() != 8 * W {
-        return code(9, 0);
+        return Err(refusal(9, 0));
     }
-    match open(file) {
-        Err(refusal) => refusal,
-        Ok(task) if k > task.n => code(7, 0),
-        Ok(task) => {
-            put(&words(&task), out);
-            0
-        }
+    let task = open(file)?;
+    if k > task.n {
+        return Err(refusal(7, 0));
     }
+    put(&words(&task), out);
+    Ok(())
 }
 
-pub fn next_read(file: &[u8], line: usize, k: usize, out: &mut [u8]) -> u32 {
+pub fn next_read(file: &[u8], line: usize, k: usize, out: &mut [u8]) -> Returned {
     answer(file, k, out, |task| {
         let (number, looked) = search(task, line, k);
         [
@@ -98,10 +97,10 @@ pub fn next_read(file: &[u8], line: usize, k: usize, out: &mut [u8]) -> u32 {
     })
 }
 
-pub fn searched(file: &[u8], k: usize, out: &mut [u8]) -> u32 {
+pub fn searched(file: &[u8], k: usize, out: &mut [u8]) -> Returned {
     answer(file, k, out, |task| useful_by_searches(task, k))
 }
 
-pub fn walked(file: &[u8], k: usize, out: &mut [u8]) -> u32 {
+pub fn walked(file: &[u8], k: usize, out: &mut [u8]) -> Returned {
     answer(file, k, out, |task| useful_by_walk(task, k))
 }

@@ -1,3 +1,5 @@
+//! Links the libraries of the crates `firmware` and `probe`, which lie in PLANNER_LIB_DIR.
+
 use std::env;
 
 fn main() {
@@ -11,8 +13,6 @@ fn main() {
         }
         Err(_) => println!("cargo:warning=PLANNER_LIB_DIR is not set"),
     }
-    // A library may bring a panic handler of its own beside the standard one.
-    println!("cargo:rustc-link-arg-bins=-Wl,--allow-multiple-definition");
     println!("cargo:rustc-link-lib=static=firmware");
     println!("cargo:rustc-link-lib=static=probe");
 }

@@ -1,0 +1,166 @@
+//! The C calls of the libraries `firmware` and `probe`, on slices.
+
+/// A refusal's number and its place.
+#[derive(Clone, Copy, PartialEq, Eq, Debug)]
+pub struct Refusal {
+    pub number: u32,
+    pub place: u32,
+}
+
+pub type Returned = Result<(), Refusal>;
+
+mod linked {
+    extern "C" {
+        pub fn preempt_plan(
+            file: *const u8,
+            file_len: usize,
+            block: *mut u8,
+            block_len: usize,
+        ) -> u32;
+        pub fn preempt_price(
+            file: *const u8,
+            file_len: usize,
+            points: *const u8,
+            points_len: usize,
+            block: *mut u8,
+            block_len: usize,
+        ) -> u32;
+        pub fn probe_useful(
+            file: *const u8,
+            file_len: usize,
+            k: usize,
+            out: *mut u8,
+            out_len: usize,
+        ) -> u32;
+        pub fn probe_next_read(
+            file: *const u8,
+            file_len: usize,
+            line: usize,
+            k: usize,
+            out: *mut u8,
+            out_len: usize,
+        ) -> u32;
+        pub fn probe_region(
+            file: *const u8,
+            file_len: usize,
+            a: usize,
+            b: usize,
+            out: *mut u8,
+            out_len: usize,
+        ) -> u32;
+        pub fn probe_replay(
+            file: *const u8,
+            file_len: usize,
+            points: *const u16,
+            points_len: usize,
+            out: *mut u8,
+            out_len: usize,
+        ) -> u32;
+        pub fn probe_generate(
+            seed: u32,
+            n: u32,
+            m: u32,
+            s: u32,
+            q: u32,
+            r: u32,
+            out: *mut u8,
+            out_len: usize,
+        ) -> u32;
+        pub fn probe_join(
+            first: *const u8,
+            first_len: usize,
+            second: *const u8,
+            second_len: usize,
+            out: *mut u8,
+            out_len: usize,
+        ) -> u32;
+    }
+}
+
+/// What a call of `firmware` returns: 0, or number times 65536 plus place.
+fn firmware(code: u32) -> Returned {
+    match code {
+        0 => Ok(()),
+        _ => Err(Refusal {
+            number: code / 65536,
+            place: code % 65536,
+        }),
+    }
+}
+
+/// What a call of `probe` returns: the same.
+fn probe(code: u32) -> Returned {
+    firmware(code)
+}
+
+pub fn plan(file: &[u8], block: &mut [u8]) -> Returned {
+    firmware(unsafe {
+        linked::preempt_plan(file.as_ptr(), file.len(), block.as_mut_ptr(), block.len())
+    })
+}
+
+pub fn price(file: &[u8], points: &[u8], block: &mut [u8]) -> Returned {
+    firmware(unsafe {
+        linked::preempt_price(
+            file.as_ptr(),
+            file.len(),
+            points.as_ptr(),
+            points.len(),
+            block.as_mut_ptr(),
+            block.len(),
+        )
+    })
+}
+
+/// The useful lines at edge k, 64 bytes.
+pub fn useful(file: &[u8], k: usize, out: &mut [u8]) -> Returned {
+    probe(unsafe {
+        linked::probe_useful(file.as_ptr(), file.len(), k, out.as_mut_ptr(), out.len())
+    })
+}
+
+/// The next read of a line after block k, 24 bytes.
+pub fn next_read(file: &[u8], line: usize, k: usize, out: &mut [u8]) -> Returned {
+    let (at, len) = (out.as_mut_ptr(), out.len());
+    probe(unsafe { linked::probe_next_read(file.as_ptr(), file.len(), line, k, at, len) })
+}
+
+/// The loaded lines of a region and its length, 72 bytes.
+pub fn region(file: &[u8], a: usize, b: usize, out: &mut [u8]) -> Returned {
+    let (at, len) = (out.as_mut_ptr(), out.len());
+    probe(unsafe { linked::probe_region(file.as_ptr(), file.len(), a, b, at, len) })
+}
+
+/// The misses without the points and with them, 16 bytes.
+pub fn replay(file: &[u8], points: &[u16], out: &mut [u8]) -> Returned {
+    probe(unsafe {
+        linked::probe_replay(
+            file.as_ptr(),
+            file.len(),
+            points.as_ptr(),
+            points.len(),
+            out.as_mut_ptr(),
+            out.len(),
+        )
+    })
+}
+
+/// The task file of a seed, N, M, S, Q and R.
+pub fn generate(numbers: [u32; 6], out: &mut [u8]) -> Returned {
+    let [seed, n, m, s, q, r] = numbers;
+    probe(unsafe { linked::probe_generate(seed, n, m, s, q, r, out.as_mut_ptr(), out.len()) })
+}
+
+/// Two task files joined.
+pub fn join(first: &[u8], second: &[u8], out: &mut [u8]) -> Returned {
+    probe(unsafe {
+        linked::probe_join(
+            first.as_ptr(),
+            first.len(),
+            second.as_ptr(),
+            second.len(),
+            out.as_mut_ptr(),
+            out.len(),
+        )
+    })
+}

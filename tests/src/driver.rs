@@ -1,34 +1,67 @@
 //! Makes one call on guarded buffers and compares everything with the reference.
 
-use crate::calls::{
-    preempt_plan, preempt_price, probe_generate, probe_join, probe_next_read, probe_region,
-    probe_replay, probe_useful,
-};
-use crate::generator::Request;
-use crate::joiner::Pair;
 use crate::pages::{Lane, Side};
-use crate::reference::{hex, points_in, Call, Reference, Refusal, BLOCK};
+use crate::reference::bytes::hex;
+use crate::reference::calls::{Answer, Call, Reference};
+use crate::reference::seeds::Request;
 use crate::rng::Rng;
+use crate::stand_in::StandIn;
 use crate::watch;
+use calls::Returned;
 
+/// Pages of a lane for inputs: more than the longest file, and than the longest list.
+const INPUT_PAGES: usize = 40;
 /// Pages of the buffer for a file that a call makes: 97 blocks and some.
 const MADE_PAGES: usize = 14;
+/// So many bytes on either side of an output are random too.
+const MARGIN: usize = 4096;
 
-pub enum Outcome {
-    Refused(Refusal),
-    Planned(Vec<usize>),
-    Answered,
-    Made(Vec<u8>),
+/// What is compared with the reference.
+pub enum Planner {
+    Library,
+    Wrong(StandIn),
+}
+
+impl Planner {
+    fn answer(&mut self, file: &[u8], call: &Call, out: &mut [u8]) -> Returned {
+        if let Planner::Wrong(program) = self {
+            return program.answer(file, call, out);
+        }
+        match *call {
+            Call::Plan => calls::plan(file, out),
+            Call::Price(points) => calls::price(file, points, out),
+            Call::Useful(k) => calls::useful(file, k, out),
+            Call::NextRead(line, k) => calls::next_read(file, line, k, out),
+            Call::Region(a, b) => calls::region(file, a, b, out),
+            Call::Replay(list) => calls::replay(file, list, out),
+            Call::Generate(Request {
+                seed,
+                n,
+                m,
+                s,
+                q,
+                r,
+            }) => calls::generate([seed, n, m, s, q, r], out),
+            Call::Join(second) => calls::join(file, second, out),
+        }
+    }
+}
+
+/// What a call returned, and its output before and after.
+#[derive(PartialEq)]
+struct Left {
+    returned: Returned,
+    before: Vec<u8>,
+    after: Vec<u8>,
 }
 
 pub struct Driver {
+    planner: Planner,
     file: Lane,
-    second: Lane,
-    points: Lane,
+    /// A plan block, a list or a second file.
+    other: Lane,
     out: Lane,
     made: Lane,
-    file_at: *const u8,
-    file_len: usize,
     pub calls: u64,
 }
 
@@ -49,84 +82,98 @@ fn even_side(rng: &mut Rng, count: usize) -> Side {
 }
 
 impl Driver {
-    pub fn new() -> Driver {
-        let file = Lane::new(40);
-        let file_at = file.pointer(0, Side::End);
+    pub fn new(planner: Planner) -> Driver {
         Driver {
-            file,
-            second: Lane::new(40),
-            points: Lane::new(40),
+            planner,
+            file: Lane::new(INPUT_PAGES),
+            other: Lane::new(INPUT_PAGES),
             out: Lane::new(1),
             made: Lane::new(MADE_PAGES),
-            file_at,
-            file_len: 0,
             calls: 0,
         }
     }
 
     pub fn lend_file(&mut self, file: &[u8], side: Side) {
-        self.file_at = self.file.lend(file, side);
-        self.file_len = file.len();
+        self.file.lend(file, side);
     }
 
-    /// Returns the code and the output, or says which byte beside the output changed.
-    fn ask(
-        &mut self,
-        rng: &mut Rng,
-        call: &Call,
-        out_len: usize,
-    ) -> Result<(u32, Vec<u8>, Vec<u8>), String> {
-        let side = random_side(rng);
-        rng.fill(self.out.bytes_mut());
-        let before = self.out.bytes().to_vec();
-        let from = self.out.offset(out_len, side);
-        let out = self.out.pointer(out_len, side);
-        let (file, file_len) = (self.file_at, self.file_len);
-        self.calls += 1;
-        let code = match *call {
-            Call::Plan => {
-                watch::call(format!("preempt_plan, block of {out_len}"), &[]);
-                unsafe { preempt_plan(file, file_len, out, out_len) }
-            }
+    /// The longest buffer that a file can be made in.
+    pub fn most_made(&self) -> usize {
+        self.made.bytes().len()
+    }
+
+    /// Makes a call, or says which byte beside the output changed.
+    fn ask(&mut self, rng: &mut Rng, call: &Call, out_len: usize) -> Result<Left, String> {
+        let call = match *call {
             Call::Price(points) => {
-                let at = self.points.lend(points, random_side(rng));
-                watch::call(
-                    format!(
-                        "preempt_price, points of {}, block of {out_len}",
-                        points.len()
-                    ),
-                    points,
-                );
-                unsafe { preempt_price(file, file_len, at, points.len(), out, out_len) }
-            }
-            Call::Useful(k) => {
-                watch::call(format!("probe_useful, k {k}, out of {out_len}"), &[]);
-                unsafe { probe_useful(file, file_len, k, out, out_len) }
-            }
-            Call::NextRead(line, k) => {
-                watch::call(
-                    format!("probe_next_read, line {line} k {k}, out of {out_len}"),
-                    &[],
-                );
-                unsafe { probe_next_read(file, file_len, line, k, out, out_len) }
-            }
-            Call::Region(a, b) => {
-                watch::call(format!("probe_region, a {a} b {b}, out of {out_len}"), &[]);
-                unsafe { probe_region(file, file_len, a, b, out, out_len) }
+                self.other.lend(points, random_side(rng));
+                Call::Price(self.other.lent())
             }
             Call::Replay(list) => {
                 let bytes: Vec<u8> = list.iter().flat_map(|p| p.to_ne_bytes()).collect();
-                let at = self.points.lend(&bytes, even_side(rng, list.len())) as *const u16;
-                let count = list.len();
-                watch::call(
-                    format!("probe_replay, {count} points, out of {out_len}"),
-                    &bytes,
-                );
-                unsafe { probe_replay(file, file_len, at, count, out, out_len) }
+                self.other.lend(&bytes, even_side(rng, list.len()));
+                Call::Replay(self.other.lent_numbers())
             }
+            Call::Join(second) => {
+                self.other.lend(second, random_side(rng));
+                Call::Join(self.other.lent())
+            }
+            call => call,
         };
-        let (before, after) = within(&before, self.out.bytes(), from, out_len)?;
-        Ok((code, before, after))
+        let lane = match call {
+            Call::Generate(_) | Call::Join(_) => &mut self.made,
+            _ => &mut self.out,
+        };
+        lane.lend_out(out_len, random_side(rng));
+        let from = lane.offset();
+        let bytes = lane.bytes_mut();
+        let end = bytes.len().min(from + out_len + MARGIN);
+        rng.fill(&mut bytes[from.saturating_sub(MARGIN)..end]);
+        let before = bytes.to_vec();
+        self.calls += 1;
+        let points = match call {
+            Call::Price(_) | Call::Replay(_) => self.other.lent(),
+            _ => &[],
+        };
+        watch::call(said(&call, out_len), points);
+        let returned = self
+            .planner
+            .answer(self.file.lent(), &call, lane.lent_mut());
+        let (before, after) = within(&before, lane.bytes(), from, out_len)?;
+        Ok(Left {
+            returned,
+            before,
+            after,
+        })
+    }
+
+    /// Compares a call on the file lent with the reference, and hands out the answer.
+    pub fn check(
+        &mut self,
+        rng: &mut Rng,
+        reference: &Reference,
+        call: &Call,
+        out_len: usize,
+    ) -> Result<Answer, String> {
+        let left = self.ask(rng, call, out_len)?;
+        let answer = reference.answer(call, out_len);
+        let returned = answer.as_ref().map(|_| ()).map_err(|&refusal| refusal);
+        if left.returned != returned {
+            let [right, got] = [returned, left.returned].map(returned_said);
+            return Err(format!("expected: {right}\ngot: {got}"));
+        }
+        let right = answer.as_ref().unwrap_or(&left.before);
+        if let Some(i) = (0..out_len).find(|&i| left.after[i] != right[i]) {
+            return Err(format!(
+                "returned: {}\nexpected: {} at byte {i} of the output\ngot: {}\nthe output expected:\n{}got:\n{}",
+                returned_said(returned),
+                right[i],
+                left.after[i],
+                hex(right),
+                hex(&left.after)
+            ));
+        }
+        Ok(answer)
     }
 
     /// Makes one call on each of two files, with the same bytes in the output, and compares what it returns and leaves.
@@ -145,164 +192,42 @@ impl Driver {
         if one == other {
             return Ok(());
         }
+        let [first, second] = [&one, &other].map(|left| returned_said(left.returned));
         Err(format!(
-            "expected: the answer of the file with other interrupters on the same lines\ngot: code {} and {}, output {}",
-            one.0,
-            other.0,
-            if one.2 == other.2 { "the same" } else { "another" }
+            "expected: the answer of the file with other interrupters on the same lines\ngot: {first} and {second}, output {}",
+            if one.after == other.after { "the same" } else { "another" }
         ))
-    }
-
-    /// The longest buffer that a file can be made in.
-    pub fn most_made(&self) -> usize {
-        self.made.bytes().len()
-    }
-
-    /// Lends a buffer to a call that makes a file, and compares what it returns and all bytes.
-    fn check_made(
-        &mut self,
-        rng: &mut Rng,
-        out_len: usize,
-        call: impl FnOnce(*mut u8) -> u32,
-        refusal: Option<Refusal>,
-        file: impl FnOnce() -> Vec<u8>,
-    ) -> Result<Outcome, String> {
-        let side = random_side(rng);
-        let from = self.made.offset(out_len, side);
-        let out = self.made.pointer(out_len, side);
-        // Random bytes in the buffer and in a block's length beside it.
-        let lane = self.made.bytes_mut();
-        let end = lane.len().min(from + out_len + BLOCK);
-        rng.fill(&mut lane[from.saturating_sub(BLOCK)..end]);
-        let before = lane.to_vec();
-        self.calls += 1;
-        let code = call(out);
-        let (before, after) = within(&before, self.made.bytes(), from, out_len)?;
-        let right = refusal.map_or(0, Refusal::code);
-        if code != right {
-            return Err(format!(
-                "expected: {} at {}\ngot: {} at {}",
-                right / 65536,
-                right % 65536,
-                code / 65536,
-                code % 65536
-            ));
-        }
-        let left = if refusal.is_some() { before } else { file() };
-        if let Some(i) = (0..out_len).find(|&i| after[i] != left[i]) {
-            return Err(format!(
-                "expected: {} at byte {i}\ngot: {}",
-                left[i], after[i]
-            ));
-        }
-        Ok(refusal.map_or(Outcome::Made(after), Outcome::Refused))
-    }
-
-    /// Makes a file from a seed.
-    pub fn check_generated(
-        &mut self,
-        rng: &mut Rng,
-        request: &Request,
-        out_len: usize,
-    ) -> Result<Outcome, String> {
-        watch::call(
-            format!("probe_generate, {request:?}, out of {out_len}"),
-            &[],
-        );
-        let Request {
-            seed,
-            n,
-            m,
-            s,
-            q,
-            r,
-        } = *request;
-        let call = |out| unsafe { probe_generate(seed, n, m, s, q, r, out, out_len) };
-        let refusal = request.refused(out_len);
-        self.check_made(rng, out_len, call, refusal, || request.file())
-    }
-
-    /// Joins two files.
-    pub fn check_joined(
-        &mut self,
-        rng: &mut Rng,
-        pair: &Pair,
-        out_len: usize,
-    ) -> Result<Outcome, String> {
-        self.lend_file(&pair.first, random_side(rng));
-        let (first, first_len) = (self.file_at, self.file_len);
-        let second = self.second.lend(&pair.second, random_side(rng));
-        let second_len = pair.second.len();
-        watch::call(format!("probe_join, out of {out_len}"), &[]);
-        let call = |out| unsafe { probe_join(first, first_len, second, second_len, out, out_len) };
-        let refusal = pair.refused(out_len);
-        self.check_made(rng, out_len, call, refusal, || pair.file())
     }
 
     /// U(k) of the file lent.
     pub fn useful(&mut self, rng: &mut Rng, k: usize) -> Result<Vec<u8>, String> {
-        let (code, _, set) = self.ask(rng, &Call::Useful(k), 64)?;
-        match code {
-            0 => Ok(set),
-            _ => Err(format!("expected: 0\ngot: code {code}")),
+        let left = self.ask(rng, &Call::Useful(k), 64)?;
+        match left.returned {
+            Ok(()) => Ok(left.after),
+            refused => Err(format!("expected: 0\ngot: {}", returned_said(refused))),
         }
     }
+}
 
-    pub fn check(
-        &mut self,
-        rng: &mut Rng,
-        reference: &Reference,
-        call: &Call,
-        out_len: usize,
-    ) -> Result<Outcome, String> {
-        let (code, before, after) = self.ask(rng, call, out_len)?;
-        if let Some(refusal) = reference.refused(call, out_len) {
-            if code != refusal.code() {
-                return Err(format!(
-                    "expected: {} at {}\ngot: {} at {}",
-                    refusal.number,
-                    refusal.place,
-                    code / 65536,
-                    code % 65536
-                ));
-            }
-            if after != before {
-                return Err(format!(
-                    "expected: {} at {} and the output unchanged\ngot: it was\n{}and is\n{}",
-                    refusal.number,
-                    refusal.place,
-                    hex(&before),
-                    hex(&after)
-                ));
-            }
-            return Ok(Outcome::Refused(refusal));
-        }
-        if code != 0 {
-            return Err(format!(
-                "expected: 0\ngot: {} at {}",
-                code / 65536,
-                code % 65536
-            ));
-        }
-        if let Call::Replay(list) = *call {
-            let points = points_in(list);
-            let model = reference.model.as_ref().unwrap();
-            if !model.adds_its_lines(&points) {
-                return Err(format!(
-                    "the reference: {points:?} adds to the misses other than its {} lines",
-                    model.lines_of(&points)
-                ));
-            }
-        }
-        match reference.answer(call) {
-            Some(answer) if answer == after => Ok(Outcome::Answered),
-            Some(answer) => Err(format!("expected:\n{}got:\n{}", hex(&answer), hex(&after))),
-            None => match reference.check_planned(&after) {
-                Ok(points) => Ok(Outcome::Planned(points)),
-                Err(text) => Err(format!("expected: {text}\ngot:\n{}", hex(&after))),
-            },
-        }
+fn returned_said(returned: Returned) -> String {
+    match returned {
+        Ok(()) => "0".to_string(),
+        Err(refusal) => format!("{} at {}", refusal.number, refusal.place),
     }
+}
+
+fn said(call: &Call, out_len: usize) -> String {
+    let call = match *call {
+        Call::Plan => "preempt_plan".to_string(),
+        Call::Price(points) => format!("preempt_price, points of {}", points.len()),
+        Call::Useful(k) => format!("probe_useful, k {k}"),
+        Call::NextRead(line, k) => format!("probe_next_read, line {line} k {k}"),
+        Call::Region(a, b) => format!("probe_region, a {a} b {b}"),
+        Call::Replay(list) => format!("probe_replay, {} points", list.len()),
+        Call::Generate(request) => format!("probe_generate, {request:?}"),
+        Call::Join(second) => format!("probe_join, second of {}", second.len()),
+    };
+    format!("{call}, output of {out_len}")
 }
 
 /// The lent bytes before and after a call, or which byte beside them changed.

@@ -26,26 +26,31 @@ pub enum Side {
     Odd,
 }
 
-/// Usable pages between two trapping ones.
+/// Usable pages between two trapping ones, and which of their bytes are lent.
 pub struct Lane {
     base: *mut u8,
     usable: usize,
+    lent: (usize, Side),
 }
 
 impl Lane {
     pub fn new(pages: usize) -> Lane {
         let usable = pages * PAGE;
-        let lane = unsafe {
-            let base = mmap(
+        let base = unsafe {
+            mmap(
                 std::ptr::null_mut(),
                 usable + 2 * PAGE,
                 NONE,
                 PRIVATE_ANONYMOUS,
                 -1,
                 0,
-            );
-            assert!(base as isize != -1, "mmap failed");
-            Lane { base, usable }
+            )
+        };
+        assert!(base as isize != -1, "mmap failed");
+        let lane = Lane {
+            base,
+            usable,
+            lent: (0, Side::End),
         };
         lane.protect(READ_WRITE);
         lane
@@ -60,17 +65,9 @@ impl Lane {
         assert!(done == 0, "mprotect failed");
     }
 
-    pub fn writable(&self) {
-        self.protect(READ_WRITE);
-    }
-
-    pub fn read_only(&self) {
-        self.protect(READ);
-    }
-
-    /// Where a buffer of this length begins among the usable bytes.
-    pub fn offset(&self, len: usize, side: Side) -> usize {
-        assert!(len <= self.usable);
+    /// Where the lent bytes begin among the usable ones.
+    pub fn offset(&self) -> usize {
+        let (len, side) = self.lent;
         match side {
             Side::Start => 0,
             Side::End => self.usable - len,
@@ -79,15 +76,14 @@ impl Lane {
     }
 
     /// A buffer of length 0 points into a trapping page.
-    pub fn pointer(&self, len: usize, side: Side) -> *mut u8 {
-        unsafe {
-            match (len, side) {
-                (0, Side::Start) => self.start().sub(1),
-                _ => self.start().add(self.offset(len, side)),
-            }
+    fn pointer(&self) -> *mut u8 {
+        match self.lent {
+            (0, Side::Start) => unsafe { self.start().sub(1) },
+            _ => unsafe { self.start().add(self.offset()) },
         }
     }
 
+    /// All usable bytes.
     pub fn bytes(&self) -> &[u8] {
         unsafe { std::slice::from_raw_parts(self.start(), self.usable) }
     }
@@ -98,12 +94,31 @@ impl Lane {
     }
 
     /// Lays an input down and makes its pages read-only.
-    pub fn lend(&mut self, input: &[u8], side: Side) -> *const u8 {
-        self.writable();
-        let at = self.offset(input.len(), side);
-        self.bytes_mut()[at..at + input.len()].copy_from_slice(input);
-        self.read_only();
-        self.pointer(input.len(), side)
+    pub fn lend(&mut self, input: &[u8], side: Side) {
+        self.protect(READ_WRITE);
+        self.lend_out(input.len(), side);
+        self.lent_mut().copy_from_slice(input);
+        self.protect(READ);
+    }
+
+    pub fn lent(&self) -> &[u8] {
+        unsafe { std::slice::from_raw_parts(self.pointer(), self.lent.0) }
+    }
+
+    /// The lent bytes as numbers of two bytes, which lie at an even address.
+    pub fn lent_numbers(&self) -> &[u16] {
+        unsafe { std::slice::from_raw_parts(self.pointer() as *const u16, self.lent.0 / 2) }
+    }
+
+    /// Says which bytes are an output.
+    pub fn lend_out(&mut self, len: usize, side: Side) {
+        assert!(len <= self.usable);
+        self.lent = (len, side);
+    }
+
+    /// Only while the lane is writable.
+    pub fn lent_mut(&mut self) -> &mut [u8] {
+        unsafe { std::slice::from_raw_parts_mut(self.pointer(), self.lent.0) }
     }
 }
 

@@ -1,6 +1,6 @@
 //! What is being tried now, so that a failure or a trap can be shown and run again.
 
-use crate::reference::{field, hex, BLOCK};
+use crate::reference::bytes::{field, hex, BLOCK};
 use std::sync::Mutex;
 
 pub struct Now {

@@ -1,17 +1,18 @@
 //! The document's own cases, asked of the planner and of the reference, and a change of every
 //! bit of File Seven and of one plan block.
 
-use crate::driver::{Driver, Outcome};
-use crate::files::{file_of, largest, reads, seven};
-use crate::joiner::Pair;
+mod joins;
+
+use crate::driver::Driver;
+use crate::inputs::known::{largest, reads, seven};
 use crate::pages::Side;
-use crate::reference::{
-    empty_set, fnv1a, next_read, plan_block, points_in, put, replay, seal, set_bytes, Call, Found,
-    Misses, Reference, Scratch, Task, BLOCK,
-};
+use crate::reference::bytes::{fnv1a, put, seal, BLOCK};
+use crate::reference::calls::{points_in, Answer, Call, Reference};
+use crate::reference::files::{Scratch, Task};
+use crate::reference::lines::{empty_set, next_read, replay, set_bytes, Found, Misses};
+use crate::reference::plans::{points_of, Plan};
 use crate::rng::Rng;
 use crate::watch;
-use std::ops::Range;
 
 struct Fixed<'a> {
     driver: &'a mut Driver,
@@ -27,15 +28,21 @@ impl Fixed<'_> {
     }
 
     fn task(&mut self, kind: &str, task: &Task) {
-        self.file(kind, &file_of(task));
+        self.file(kind, &task.file());
+    }
+
+    fn check(&mut self, call: &Call) -> Result<Answer, String> {
+        let len = self.reference.out_len(call);
+        self.driver.check(&mut self.rng, &self.reference, call, len)
+    }
+
+    fn anything(&mut self, call: &Call) -> Result<(), String> {
+        self.check(call).map(|_| ())
     }
 
     fn refused(&mut self, call: &Call, number: u32, place: u32) -> Result<(), String> {
-        match self
-            .driver
-            .check(&mut self.rng, &self.reference, call, call.out_len())?
-        {
-            Outcome::Refused(r) if r.number == number && r.place == place => Ok(()),
+        match self.check(call)? {
+            Err(r) if r.number == number && r.place == place => Ok(()),
             _ => Err(format!(
                 "the reference doesn't refuse with {number} at {place}"
             )),
@@ -43,41 +50,27 @@ impl Fixed<'_> {
     }
 
     fn planned(&mut self, right: &[usize], price: u64) -> Result<(), String> {
-        match self
-            .driver
-            .check(&mut self.rng, &self.reference, &Call::Plan, BLOCK)?
-        {
-            Outcome::Planned(points)
-                if points == right && self.reference.least.as_ref().unwrap().price == price =>
-            {
-                Ok(())
-            }
-            Outcome::Planned(points) => Err(format!(
-                "expected: {right:?} at price {price}\ngot: {points:?}, and the reference agrees"
-            )),
-            _ => Err("the reference plans nothing".to_string()),
+        let points = points_of(&self.plans_something()?);
+        if points == right && self.reference.least().unwrap().price == price {
+            return Ok(());
         }
+        Err(format!(
+            "expected: {right:?} at price {price}\ngot: {points:?}, and the reference agrees"
+        ))
     }
 
-    fn plans_something(&mut self) -> Result<(), String> {
-        match self
-            .driver
-            .check(&mut self.rng, &self.reference, &Call::Plan, BLOCK)?
-        {
-            Outcome::Planned(_) => Ok(()),
-            _ => Err("the reference plans nothing".to_string()),
-        }
+    fn plans_something(&mut self) -> Result<Vec<u8>, String> {
+        self.check(&Call::Plan)?
+            .map_err(|_| "the reference plans nothing".to_string())
     }
 
     fn set(&mut self, call: &Call, lines: &[usize]) -> Result<(), String> {
-        self.driver
-            .check(&mut self.rng, &self.reference, call, call.out_len())?;
         let mut set = empty_set();
         for &c in lines {
             set[c] = true;
         }
-        match self.reference.answer(call) {
-            Some(answer) if answer[..64] == set_bytes(&set) => Ok(()),
+        match self.check(call)? {
+            Ok(answer) if answer[..64] == set_bytes(&set) => Ok(()),
             _ => Err(format!("the reference doesn't give {lines:?}")),
         }
     }
@@ -91,8 +84,8 @@ impl Fixed<'_> {
     ) -> Result<(), String> {
         self.anything(&Call::NextRead(line, k))?;
         let right = Found { number, looked };
-        let model = self.reference.model.as_ref().unwrap();
-        match next_read(&model.task, line, k) {
+        let task = &self.reference.model().unwrap().task;
+        match next_read(task, line, k) {
             found if found == right => Ok(()),
             found => Err(format!(
                 "line {line} after block {k}: the reference finds {found:?} and not {right:?}"
@@ -103,8 +96,8 @@ impl Fixed<'_> {
     fn misses(&mut self, list: &[u16], alone: u64, with_points: u64) -> Result<(), String> {
         self.anything(&Call::Replay(list))?;
         let right = Misses { alone, with_points };
-        let model = self.reference.model.as_ref().unwrap();
-        match replay(&model.task, &points_in(list)) {
+        let task = &self.reference.model().unwrap().task;
+        match replay(task, &points_in(list)) {
             found if found == right => Ok(()),
             found => Err(format!(
                 "points {list:?}: the reference finds {found:?} and not {right:?}"
@@ -112,25 +105,21 @@ impl Fixed<'_> {
         }
     }
 
-    fn anything(&mut self, call: &Call) -> Result<(), String> {
-        self.driver
-            .check(&mut self.rng, &self.reference, call, call.out_len())
-            .map(|_| ())
-    }
-
     /// Into an output that is longer by so many bytes than it should be.
-    fn join(&mut self, kind: &str, files: [&[u8]; 2], more: isize) -> Result<Outcome, String> {
+    fn join(&mut self, kind: &str, files: [&[u8]; 2], more: isize) -> Result<Answer, String> {
         watch::files(None, kind, &files);
-        let [first, second] = files.map(<[u8]>::to_vec);
-        let pair = Pair { first, second };
-        let len = pair.length().saturating_add_signed(more);
+        self.reference = Reference::new(files[0]);
+        self.driver.lend_file(files[0], Side::End);
+        let call = Call::Join(files[1]);
+        let len = self.reference.out_len(&call).saturating_add_signed(more);
         let len = len.min(self.driver.most_made());
-        self.driver.check_joined(&mut self.rng, &pair, len)
+        self.driver
+            .check(&mut self.rng, &self.reference, &call, len)
     }
 
     fn joined(&mut self, kind: &str, files: [&[u8]; 2], right: &Task) -> Result<(), String> {
         match self.join(kind, files, 0)? {
-            Outcome::Made(file) if file == file_of(right) => Ok(()),
+            Ok(file) if file == right.file() => Ok(()),
             _ => Err("the reference doesn't join them so".to_string()),
         }
     }
@@ -143,13 +132,25 @@ impl Fixed<'_> {
         right: (u32, u32),
     ) -> Result<(), String> {
         match self.join(kind, files, more)? {
-            Outcome::Refused(r) if (r.number, r.place) == right => Ok(()),
+            Err(r) if (r.number, r.place) == right => Ok(()),
             _ => Err(format!(
                 "the reference doesn't refuse with {} at {}",
                 right.0, right.1
             )),
         }
     }
+}
+
+/// A plan block with some numbers.
+fn plan_block(n: usize, points: &[usize]) -> Vec<u8> {
+    let plan = Plan {
+        n,
+        lines: 8,
+        price: 7,
+        id: 9,
+        points: points.to_vec(),
+    };
+    plan.block()
 }
 
 fn one_block(time: u32, limit: u32) -> Task {
@@ -199,8 +200,8 @@ pub fn run(driver: &mut Driver) -> Result<(), String> {
     f.set(&Call::Region(1, 2), &[])?;
     f.set(&Call::Region(3, 4), &[0])?;
     f.planned(&[1, 2], 10)?;
-    f.refused(&Call::Price(&plan_block(4, 0, 0, 0, &[1])), 8, 1)?;
-    f.refused(&Call::Price(&plan_block(4, 0, 0, 0, &[2, 2])), 5, 97)?;
+    f.refused(&Call::Price(&plan_block(4, &[1])), 8, 1)?;
+    f.refused(&Call::Price(&plan_block(4, &[2, 2])), 5, 97)?;
     f.refused(&Call::Useful(5), 7, 0)?;
     f.refused(&Call::NextRead(0, 5), 7, 0)?;
     f.refused(&Call::NextRead(4, 5), 7, 0)?;
@@ -313,7 +314,7 @@ pub fn run(driver: &mut Driver) -> Result<(), String> {
     task.lines = 513;
     f.task("S 513", &task);
     f.refused(&Call::Plan, 3, 0)?;
-    let mut file = file_of(&most);
+    let mut file = most.file();
     put(&mut file, 5 * BLOCK + 2, 2, 125);
     seal(&mut file[5 * BLOCK..6 * BLOCK]);
     f.file("r 125 in block 5", &file);
@@ -323,7 +324,7 @@ pub fn run(driver: &mut Driver) -> Result<(), String> {
     f.task("50,176 bytes", &task);
     f.refused(&Call::Plan, 1, 0)?;
 
-    joins(&mut f)?;
+    joins::run(&mut f)?;
     changed_bits(&mut f)
 }
 
@@ -396,105 +397,9 @@ fn scratch(f: &mut Fixed) -> Result<(), String> {
     Ok(())
 }
 
-/// Two files joined.
-fn joins(f: &mut Fixed) -> Result<(), String> {
-    let (long, short) = (seven(60), one_block(70, 59));
-    let (file, other) = (file_of(&long), file_of(&short));
-    let mut right = Task {
-        limit: 59,
-        ..long.clone()
-    };
-    right.blocks.push(reads(70, &[0]));
-    f.joined("File Seven and one block", [&file, &other], &right)?;
-    right.id = 1;
-    right.blocks.rotate_right(1);
-    f.joined("one block and File Seven", [&other, &file], &right)?;
-    for more in [-3584, -512, -1, 1, 512] {
-        let files = [&file[..], &other];
-        f.not_joined("File Seven and one block", files, more, (9, 0))?;
-    }
-
-    let unlike = [
-        Task {
-            lines: 260,
-            ..long.clone()
-        },
-        Task {
-            reload: 11,
-            ..long.clone()
-        },
-        seven_with(1, 0),
-        seven_with(1 << 31, 0),
-        seven_with(0, 1),
-        seven_with(0, 1 << 31),
-        seven_with(4, 1),
-    ];
-    for task in &unlike {
-        let apart = file_of(task);
-        f.joined("alike", [&apart, &apart], &twice(task))?;
-        f.not_joined("unlike", [&file, &apart], 0, (11, 0))?;
-        f.not_joined("unlike", [&apart, &file], 512, (11, 0))?;
-    }
-
-    let most = largest();
-    let whole = file_of(&most);
-    let half = |blocks: Range<usize>, interrupters: Range<usize>| Task {
-        blocks: most.blocks[blocks].to_vec(),
-        interrupters: most.interrupters[interrupters].to_vec(),
-        ..most.clone()
-    };
-    let first = file_of(&half(0..32, 0..16));
-    let mut rest = half(32..64, 16..32);
-    rest.limit += 1;
-    rest.id += 1;
-    f.joined("two halves", [&first, &file_of(&rest)], &most)?;
-    let over = [half(31..64, 16..32), half(32..64, 15..32)].map(|task| file_of(&task));
-    for file in &over {
-        f.not_joined("65 or 33", [&first, file], 0, (12, 0))?;
-        f.not_joined("65 or 33", [file, &first], 512, (12, 0))?;
-    }
-    f.not_joined("twice the largest", [&whole, &whole], 0, (12, 0))?;
-    f.not_joined("another S, and N 68", [&whole, &file], 0, (11, 0))?;
-
-    let mut check = file.clone();
-    check[4 * BLOCK - 1] ^= 1;
-    let mut count = whole.clone();
-    put(&mut count, 96 * BLOCK + 2, 2, 125);
-    seal(&mut count[96 * BLOCK..]);
-    let header = file_of(&Task {
-        lines: 513,
-        ..long.clone()
-    });
-    let wrong: [(&[u8], u32, u32); 6] = [
-        (&[], 1, 0),
-        (&file[..BLOCK + 1], 1, 0),
-        (&check, 2, 3),
-        (&header, 3, 0),
-        (&file[..BLOCK], 4, 0),
-        (&count, 5, 96),
-    ];
-    for (bad, number, place) in wrong {
-        f.not_joined("the first is wrong", [bad, &file], 0, (number, place))?;
-        f.not_joined("the second is", [&file, bad], 0, (number, 97 + place))?;
-        f.not_joined("the second is", [&whole, bad], 1, (number, 97 + place))?;
-        for (also, ..) in wrong {
-            f.not_joined("both are wrong", [bad, also], 0, (number, place))?;
-        }
-    }
-    Ok(())
-}
-
-/// A task joined with itself.
-fn twice(task: &Task) -> Task {
-    let mut twice = task.clone();
-    twice.blocks.extend_from_slice(&task.blocks);
-    twice.interrupters.extend_from_slice(&task.interrupters);
-    twice
-}
-
 fn changed_bits(f: &mut Fixed) -> Result<(), String> {
-    let whole = file_of(&seven(60));
-    let points = plan_block(5, 9, 8, 7, &[2, 3]);
+    let whole = seven(60).file();
+    let points = plan_block(5, &[2, 3]);
     for i in 0..whole.len() * 8 {
         for sealed in [true, false] {
             if !sealed && i % 8 != i / 8 % 8 {
@@ -519,7 +424,7 @@ fn changed_bits(f: &mut Fixed) -> Result<(), String> {
                 f.anything(&Call::Replay(&[1, 3]))?;
                 let mut files = [&file[..], &whole];
                 files.rotate_right(i % 2);
-                f.join("File Seven twice, a bit changed", files, 0)?;
+                let _ = f.join("File Seven twice, a bit changed", files, 0)?;
             }
         }
     }

@@ -1,10 +1,12 @@
 # make, make lib    prove the planner and build its static library
-# make parts        that, the tests' library and the programs plan, price, next_read, useful, replay, generate and join
+# make parts        that, the tests' library and the programs at the desk
 # make example      build the C example and hold what it prints on File Seven to its file 'expected'
 # make release      the library, its header and how to link them, in one archive
 # make test-c       unpack the release and call it from C
-# make test-desk    prove these programs and hold what they print to documents 01 and 02
+# make test-desk    prove the programs at the desk and hold what they print to documents 01 and 02
+# make test-readme  run the examples of README.md and hold what they print to what it says
 # make opponent     compare the C calls with the independent implementation in tests/; SEED, COUNT and CASE may be given
+# make opponent-bugs  see that this comparison notices each wrong program that tests/ has
 # make bench        time the calls against plain Rust
 # make clean        remove all that was built
 
@@ -14,12 +16,17 @@ VERSION := $(shell cat VERSION)
 SOURCES := crates.txt $(shell find crates -name '*.rt' -o -name '*.antt')
 LIB := target/staticlib/libfirmware.a
 PROBE := target/staticlib/libprobe.a
-PROGRAMS := $(addprefix target/bin/,plan price next_read useful replay generate join)
+# The programs at the desk: all that have a main but those of cases.
+DESK := $(filter-out %_cases %_vectors %_figure,$(patsubst crates/%/src/main.rt,%,$(wildcard crates/*/src/main.rt)))
+PROGRAMS := $(addprefix target/bin/,$(DESK))
 NAME := preempt-$(VERSION)
 RELEASE := target/release/$(NAME)
 UNPACKED := target/test-c/$(NAME)
 
-.PHONY: lib parts example release test-c test-desk opponent bench clean
+OPPONENT := PLANNER_LIB_DIR=$(CURDIR)/target/staticlib CARGO_TARGET_DIR=$(CURDIR)/target/opponent \
+	cargo run --release --offline --locked --quiet --manifest-path tests/Cargo.toml --
+
+.PHONY: lib parts example release test-c test-desk test-readme opponent opponent-bugs bench clean
 .DELETE_ON_ERROR:
 # Two calls of rt at once would overwrite each other's notes in target/.
 .NOTPARALLEL:
@@ -66,15 +73,20 @@ test-c: $(RELEASE).tar.gz
 	test "$$has" = 'preempt_plan preempt_price' || { echo "the archive exports: $$has"; exit 1; }
 	needs=$$(nm -u $(UNPACKED)/lib/libfirmware.a | sed -n 's/^ *U //p' | sort -u | xargs); \
 	grep -q "needs: $$needs$$" $(UNPACKED)/LINKING.txt || { echo "LINKING.txt does not say that the archive needs: $$needs"; exit 1; }
-	$(CC) $(CFLAGS) -I$(UNPACKED)/include tests/c/release.c $(UNPACKED)/lib/libfirmware.a -o target/test-c/release
+	$(CC) $(CFLAGS) -DRELEASED="\"$$(cat $(UNPACKED)/VERSION)\"" -I$(UNPACKED)/include tests/c/release.c $(UNPACKED)/lib/libfirmware.a -o target/test-c/release
 	ulimit -s 128 && env -i target/test-c/release examples/firmware/seven.bin
 
 test-desk: $(PROGRAMS)
-	tests/desk.sh
+	tests/desk.sh $(DESK)
+
+test-readme: $(PROGRAMS) target/example/firmware
+	python3 tests/readme.py
 
 opponent: $(LIB) $(PROBE)
-	PLANNER_LIB_DIR=$(CURDIR)/target/staticlib CARGO_TARGET_DIR=$(CURDIR)/target/opponent \
-		cargo run --release --offline --locked --quiet --manifest-path tests/Cargo.toml -- $(SEED) $(COUNT) $(CASE)
+	$(OPPONENT) $(SEED) $(COUNT) $(CASE)
+
+opponent-bugs: $(LIB) $(PROBE)
+	$(OPPONENT) bugs
 
 bench: $(LIB) $(PROBE)
 	PLANNER_LIB_DIR=$(CURDIR)/target/staticlib CARGO_TARGET_DIR=$(CURDIR)/target/bench \

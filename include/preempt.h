@@ -9,6 +9,8 @@
 extern "C" {
 #endif
 
+#define PREEMPT_VERSION "0.1.0"
+
 #define PREEMPT_BLOCK_BYTES 512
 #define PREEMPT_FILE_BYTES_MOST 49664 /* a task file of 97 blocks */
 

@@ -1,5 +1,6 @@
 #!/bin/sh
-# Runs the programs plan, price, next_read, useful, replay, generate and join, and says where they print something else than documents 01 and 02 have.
+# desk.sh PROGRAM..: runs the programs at the desk, and says where they print something else than documents 01 and 02 have. Each of those named must be
+# among those that are run.
 set -u
 cd "$(dirname "$0")/.."
 seven=crates/planner_cases/data/seven
@@ -7,17 +8,24 @@ largest=crates/planner_cases/data/largest
 high=crates/planner_cases/data/high-70
 damaged=crates/taskfile_cases/data
 joined=crates/join/data
+programs=$*
 failed=0
 errors=$(mktemp)
 made=$(mktemp)
 parts=$(mktemp -d)
 trap 'rm -rf "$errors" "$made" "$parts"' EXIT
 
+# runs PROGRAM ARGUMENT..
+runs() {
+    echo "$1" >>"$parts/run"
+    "target/bin/$@"
+}
+
 # prints FILE LINES PROGRAM ARGUMENT..: on the file, the program prints these lines, and nothing on standard error
 prints() {
     file=$1 lines=$2
     shift 2
-    printed=$("target/bin/$@" <"$file" 2>"$errors")
+    printed=$(runs "$@" <"$file" 2>"$errors")
     [ "$printed" = "$lines" ] && [ ! -s "$errors" ] && return
     failed=1
     printf '%s < %s\nshould print\n%s\nand printed\n%s\n' "$*" "$file" "$lines" "$printed"
@@ -26,7 +34,7 @@ prints() {
 
 # usage PROGRAM ARGUMENT..: the program prints one line on standard error, and nothing else
 usage() {
-    printed=$("target/bin/$@" <$seven-60 2>"$errors")
+    printed=$(runs "$@" <$seven-60 2>"$errors")
     [ -z "$printed" ] && [ "$(wc -l <"$errors")" -eq 1 ] && grep -q '^usage: ' "$errors" && return
     failed=1
     printf '%s\nshould print a line of usage, and printed\n%s\n' "$*" "$printed"
@@ -37,7 +45,7 @@ usage() {
 reports() {
     line=$1
     shift
-    printed=$("target/bin/$@" </dev/null 2>"$errors")
+    printed=$(runs "$@" </dev/null 2>"$errors")
     [ -z "$printed" ] && [ "$(cat "$errors")" = "$line" ] && return
     failed=1
     printf '%s\nshould report\n%s\nand printed\n%s\n' "$*" "$line" "$printed"
@@ -48,7 +56,7 @@ reports() {
 makes() {
     file=$1
     shift
-    "target/bin/$@" </dev/null >"$file" 2>"$errors"
+    runs "$@" </dev/null >"$file" 2>"$errors"
     [ -s "$file" ] && [ ! -s "$errors" ] && return
     failed=1
     printf '%s\nshould write a file, and printed\n' "$*"
@@ -69,7 +77,7 @@ writes() {
 alike() {
     one=$1 other=$2
     shift 2
-    printed=$("target/bin/$@" <"$one" 2>"$errors")
+    printed=$(runs "$@" <"$one" 2>"$errors")
     [ -n "$printed" ] || { failed=1; printf '%s < %s\nprinted nothing\n' "$*" "$one"; }
     prints "$other" "$printed" "$@"
 }
@@ -342,5 +350,9 @@ done
 usage join
 usage join $seven-60
 usage join $seven-60 $seven-60 $seven-60
+
+for program in $programs; do
+    grep -qx "$program" "$parts/run" || { failed=1; echo "$program is not tried"; }
+done
 
 exit $failed

@@ -1,5 +1,5 @@
 /* Calls the archive of a release: `release FILE` plans File Seven and prices the plan's points, which must give the same block, plans it
-   once more at Q 40, and tries the refusals that need no file. It prints what went wrong; status 1 if anything did. */
+   once more at Q 40, and tries the refusals that need no file. RELEASED is what VERSION says. It prints what went wrong; status 1 if anything did. */
 #include <preempt.h>
 #include <stdio.h>
 #include <string.h>
@@ -38,6 +38,7 @@ int main(int argc, char **argv) {
     }
     size_t len = fread(file, 1, sizeof file, from);
 
+    hold(strcmp(PREEMPT_VERSION, RELEASED) == 0, "PREEMPT_VERSION is not what VERSION says");
     memset(priced, 85, sizeof priced);
     memset(before, 85, sizeof before);
     hold(refused(preempt_plan(NULL, 0, NULL, 0), PREEMPT_OUTPUT, 0), "planning into no block");

@@ -8,12 +8,14 @@ thread_local! {
 }
 
 /// Whether this switch is on.
+#[inline(always)]
 pub fn bug(name: &str) -> bool {
     ON.get() == name
 }
 
 pub trait But: Sized {
     /// The value, or the wrong one where this switch is on.
+    #[inline(always)]
     fn but(self, name: &str, wrong: Self) -> Self {
         if bug(name) {
             wrong

@@ -163,7 +163,8 @@ impl Driver {
             return Err(format!("expected: {right}\ngot: {got}"));
         }
         let right = answer.as_ref().unwrap_or(&left.before);
-        if let Some(i) = (0..out_len).find(|&i| left.after[i] != right[i]) {
+        if left.after != *right {
+            let i = (0..out_len).find(|&i| left.after[i] != right[i]).unwrap();
             return Err(format!(
                 "returned: {}\nexpected: {} at byte {i} of the output\ngot: {}\nthe output expected:\n{}got:\n{}",
                 returned_said(returned),

@@ -19,7 +19,7 @@ const MARGIN: usize = 4096;
 /// What is compared with the reference.
 pub enum Planner {
     Library,
-    Wrong(StandIn),
+    Wrong(Box<StandIn>),
 }
 
 impl Planner {

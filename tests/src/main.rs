@@ -3,7 +3,7 @@
 //! OPPONENT_COUNT serve where an argument is missing.
 //!
 //! `opponent bugs` puts each wrong program in the library's place and fails if the comparison doesn't
-//! notice one. With OPPONENT_BUG set to a wrong program's name, that one alone is compared.
+//! notice one. `opponent bug NAME [SEED [COUNT [CASE]]]` does so with one of them.
 
 mod bugs;
 mod cases;
@@ -23,6 +23,7 @@ use driver::{Driver, Planner};
 use stand_in::StandIn;
 use std::process::ExitCode;
 
+/// Random files, where no count is given.
 const FILES: u64 = 24000;
 
 fn setting(args: &[String], index: usize, name: &str) -> Option<u64> {
@@ -33,7 +34,7 @@ fn setting(args: &[String], index: usize, name: &str) -> Option<u64> {
     match text.parse() {
         Ok(value) => Some(value),
         Err(_) => {
-            eprintln!("usage: opponent [bugs | SEED [COUNT [CASE]]], not {text:?}");
+            eprintln!("usage: opponent [bugs | [bug NAME] SEED [COUNT [CASE]]], not {text:?}");
             std::process::exit(2);
         }
     }
@@ -46,31 +47,35 @@ fn clock_seed() -> u64 {
     since.as_nanos() as u64
 }
 
-/// The wrong program that stands in for the library, if any.
-fn wrong_program() -> Option<StandIn> {
-    let name = std::env::var(trials::BUG).ok()?;
-    match bugs::all().into_iter().chain([""]).find(|n| *n == name) {
-        Some(name) => Some(StandIn::new(name)),
+/// What is compared with the reference: the library, or the wrong program that the arguments name.
+fn planner(args: &mut Vec<String>) -> Planner {
+    if args.len() < 2 || args[0] != "bug" {
+        return Planner::Library;
+    }
+    let named: Vec<String> = args.drain(..2).collect();
+    let mut names = bugs::all().into_iter().chain([""]);
+    match names.find(|name| *name == named[1]) {
+        Some(name) => Planner::Wrong(Box::new(StandIn::new(name))),
         None => {
-            eprintln!("{}: no wrong program {name:?}", trials::BUG);
+            eprintln!("no wrong program {:?}", named[1]);
             std::process::exit(2);
         }
     }
 }
 
 fn main() -> ExitCode {
-    let args: Vec<String> = std::env::args().skip(1).collect();
+    let mut args: Vec<String> = std::env::args().skip(1).collect();
     if args.first().is_some_and(|a| a == "bugs") {
         return trials::run();
     }
+    let planner = planner(&mut args);
+    let tried = matches!(planner, Planner::Wrong(_));
     let seed = setting(&args, 0, "OPPONENT_SEED").unwrap_or_else(clock_seed);
     let count = setting(&args, 1, "OPPONENT_COUNT").unwrap_or(FILES);
     let only = setting(&args, 2, "OPPONENT_CASE");
     watch::start(seed);
     println!("seed {seed}, {count} files");
-    let wrong = wrong_program();
-    let tried = wrong.is_some();
-    let mut driver = Driver::new(wrong.map_or(Planner::Library, Planner::Wrong));
+    let mut driver = Driver::new(planner);
     let mut counts = Counts::new();
 
     let cases = match only {

@@ -1,19 +1,14 @@
 //! Tries the comparison itself: each wrong program must be noticed, and the reference without a switch must not.
 
-use crate::bugs;
+use crate::{bugs, FILES};
 use std::process::{Command, ExitCode};
 use std::sync::atomic::{AtomicUsize, Ordering};
 use std::sync::Mutex;
 use std::thread;
 
-/// The variable that names a wrong program.
-pub const BUG: &str = "OPPONENT_BUG";
-
-/// The random files that each may meet, and their seed.
-const SEED: &str = "1";
-const FILES: &str = "8000";
-/// Those that the reference without a switch meets.
-const FEW: &str = "400";
+const SEED: u64 = 1;
+/// So many random files meet the reference without a switch; a wrong program meets as many as the library.
+const FEW: u64 = 400;
 
 /// What a run of this program with one switch says: where it stopped, if it noticed something.
 struct Verdict {
@@ -27,14 +22,16 @@ fn tried(name: &str) -> Verdict {
     let files = if name.is_empty() { FEW } else { FILES };
     let me = std::env::current_exe().unwrap();
     let run = Command::new(me)
-        .args([SEED, files])
-        .env(BUG, name)
+        .args(["bug", name])
+        .args([SEED, files].map(|number| number.to_string()))
+        .env_remove("OPPONENT_CASE")
         .output()
         .unwrap();
     let text = String::from_utf8_lossy(&run.stdout).into_owned();
     let line = |starts: &str| text.lines().find(|l| l.starts_with(starts)).unwrap_or("");
-    let case = line("seed 1 case").split(',').next().unwrap_or("");
-    let case = case.strip_prefix("seed 1 ").unwrap_or("a fixed case");
+    let seed = format!("seed {SEED} ");
+    let case = line(&format!("{seed}case")).split(',').next().unwrap();
+    let case = case.strip_prefix(&seed).unwrap_or("a fixed case");
     Verdict {
         noticed: run.status.code() == Some(1) && text.lines().any(|l| l == "FAILED"),
         agrees: run.status.success(),

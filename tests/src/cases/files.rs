@@ -29,7 +29,7 @@ impl Asked {
     }
 
     fn accepted(&self) -> bool {
-        self.reference.refusal.is_none()
+        self.reference.model().is_ok()
     }
 }
 

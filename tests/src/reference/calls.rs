@@ -39,10 +39,10 @@ fn given(refusal: Option<Refusal>) -> Result<(), Refusal> {
     refusal.map_or(Ok(()), Err)
 }
 
-/// What is known of one file.
+/// What is known of one file, each thing found when it is first asked for.
 pub struct Reference {
     pub file: Vec<u8>,
-    pub refusal: Option<Refusal>,
+    refusal: OnceCell<Option<Refusal>>,
     model: OnceCell<Model>,
     least: OnceCell<Option<Least>>,
 }
@@ -51,7 +51,7 @@ impl Reference {
     pub fn new(file: &[u8]) -> Reference {
         Reference {
             file: file.to_vec(),
-            refusal: file_refusal(file),
+            refusal: OnceCell::new(),
             model: OnceCell::new(),
             least: OnceCell::new(),
         }
@@ -59,7 +59,7 @@ impl Reference {
 
     /// The file's refusal, or its model.
     pub fn model(&self) -> Result<&Model, Refusal> {
-        given(self.refusal)?;
+        given(*self.refusal.get_or_init(|| file_refusal(&self.file)))?;
         Ok(self
             .model
             .get_or_init(|| Model::new(Task::read(&self.file))))

@@ -28,15 +28,16 @@ impl Scratch {
         self.first as u64 + self.count as u64
     }
 
+    /// A count of 0 means that there is none.
     pub fn has(self, m: u32) -> bool {
+        if self.count == 0 {
+            return false;
+        }
         let (first, end) = (self.first as u64, self.end());
         let first = first.but("range without its first number", first + 1);
         let end = end
-            .but("range without its last number", end.saturating_sub(1))
-            .but(
-                "range with the number after it",
-                end + (self.count > 0) as u64,
-            )
+            .but("range without its last number", end - 1)
+            .but("range with the number after it", end + 1)
             .but("range end in 32 bits", end as u32 as u64);
         first <= m as u64 && (m as u64) < end
     }

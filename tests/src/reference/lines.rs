@@ -79,12 +79,12 @@ pub fn useful_lines(task: &Task, k: usize) -> Set {
             cache[task.remainder(m)] = Some(m);
         }
     }
+    let last = bug("useful if the last number read is the same");
+    let any = bug("useful if read again at any later time");
     let mut first: Cache = vec![None; LINES];
     for &m in task.blocks[k..].iter().flat_map(|block| &block.numbers) {
         if let Some(line) = task.line_of(m) {
-            let later = bug("useful if the last number read is the same")
-                || cache[line] == Some(m) && bug("useful if read again at any later time");
-            if first[line].is_none() || later {
+            if first[line].is_none() || last || any && cache[line] == Some(m) {
                 first[line] = Some(m);
             }
         }

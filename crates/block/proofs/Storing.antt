@@ -34,7 +34,7 @@ stored-kept {n} {bs} {new} {xs} w h s =
     record { bytes = rw (append-assoc, rest) (s .bytes); long = omega (arith, length-append xs (take w (drop n bs)), length-part n w bs h, s .long) }
 
 -- these bytes are stored behind them
-stored-more : {n : ℕ} {bs mid new xs : List ℕ} (end : ℕ) (ys : List ℕ) → Stored n bs mid xs → n + length ys ≡ end
+pub stored-more : {n : ℕ} {bs mid new xs : List ℕ} (end : ℕ) (ys : List ℕ) → Stored n bs mid xs → n + length ys ≡ end
     → new ≡ take n mid ++ ys ++ drop end mid → Stored end bs new (xs ++ ys)
 stored-more {n} {bs} {mid} {new} {xs} end ys s l p =
     let later : drop end mid ≡ drop end bs = rw (← l, ← drop-drop (length ys) n mid, stored-rest s, drop-drop) in

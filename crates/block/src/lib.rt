@@ -5,7 +5,7 @@ ghost use mathlib.Core.List.{_++_};
 ghost use Prim.Native.Nat.{_+_, _-_, _*_, _≤_};
 ghost use lib.ListN.{length, take, drop, replicate};
 ghost use Rattle.fnv.specs.Fnv.{fnv1a};
-ghost use Rattle.block.specs.Bytes.{le, field, zerosBetween};
+ghost use Rattle.block.specs.Bytes.{le, les, field, zerosBetween};
 ghost use Rattle.block.specs.Blocks.{numbered, sealed, sealedBlocks, checksumRight, bodyRight, framed};
 ghost use Rattle.block.specs.Steps.{HashesOf, SealedSoFar};
 use fnv::FourHashes;
@@ -155,6 +155,18 @@ pub fn put_u64(bytes: &mut [u8], at: usize, v: u64)
 {
     put_u32(bytes, at, (v % 4294967296) as u32);
     put_u32(bytes, at + 4, (v / 4294967296) as u32);
+}
+
+// Stores numbers in four bytes each, one behind another.
+pub fn put_u32s(bytes: &mut [u8], at: usize, values: &[u32])
+    requires { ⌜ at + 4 * length (now values) ≤ length (now bytes) ⌝ }
+    ensures { λ _. ⌜ now (bytes .exit) ≡ take at (now (bytes .entry)) ++ les 4 (now (values .entry)) ++ drop (at + 4 * length (now (values .entry))) (now (bytes .entry)) ⌝ }
+{
+    let mut i = 0;
+    while i < values.len() {
+        put_u32(bytes, at + 4 * i, values[i]);
+        i += 1;
+    }
 }
 
 // Stores zeros from start up to end; the byte at end stays what it was.

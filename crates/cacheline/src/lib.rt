@@ -11,7 +11,7 @@ use model::Mapping;
 // The number of lines, and 2^32 divided by it, which spares a division for each read; and the memory blocks that bypass the cache, from the
 // first up to the end.
 pub struct Geometry {
-    pub count: u32,
+    pub line_count: u32,
     pub inverse: u64,
     pub first: u64,
     pub end: u64,
@@ -22,12 +22,13 @@ pub fn geometry_of(file: &[u8]) -> Geometry
     requires { ⌜ IsAccepted (now file) ⌝ }
     ensures { λ r. ⌜ GeometryOf (taskOf (now (file .entry))) r ⌝ }
 {
-    let count = taskfile::line_count(file);
-    let first = taskfile::scratch_first(file) as u64;
-    let end = first + taskfile::scratch_count(file) as u64;
+    let header = taskfile::header(file);
+    let line_count = header.line_count as u32;
+    let first = header.scratch.first as u64;
+    let end = first + header.scratch.count as u64;
     Geometry {
-        count,
-        inverse: 4294967296 / count as u64,
+        line_count,
+        inverse: 4294967296 / line_count as u64,
         first,
         end,
     }
@@ -69,12 +70,12 @@ impl Geometry {
         }
     }
 
-    // A number's remainder by the count, from a quotient that is right or one too small.
+    // A number's remainder by the line count, from a quotient that is right or one too small.
     fn remainder(self, number: u32) -> usize
         requires { ⌜ Sound self ⌝ }
-        ensures { λ r. ⌜ (r ≡ number % self .count) × (r < 512) ⌝ }
+        ensures { λ r. ⌜ (r ≡ number % self .«line_count») × (r < 512) ⌝ }
     {
-        let lines = self.count as u64;
+        let lines = self.line_count as u64;
         let quotient = (number as u64 * self.inverse) >> 32;
         let rest = number as u64 - quotient * lines;
         if rest < lines {

@@ -15,7 +15,7 @@ use Rattle.model.specs.declared.Line.{Line}
 use Rattle.model.specs.declared.Line.the-variants.{Empty, Held}
 use Rattle.model.proofs.LineStates.{last-append, first-append, last-unread, first-none, never-empty, holds-none}
 use Rattle.model.proofs.ReadOrder.{reads-append}
-use Rattle.joining.specs.Joining.{joined}
+use Rattle.joining.specs.Joining.{joinedHeader, joined}
 use Rattle.joining.proofs.Tasks.{Agreeing}
 
 module _ (on : ℕ → Bool) where
@@ -49,7 +49,7 @@ module _ (on : ℕ → Bool) where
 -- the first task: its reads come before those of the second
 module _ (t u : Task) (k c : ℕ) where
   on-first : onLine (joined t u) c ≡ onLine t c
-  unfolding joined onLine lineOf bypasses
+  unfolding joined joinedHeader onLine lineOf bypasses
   on-first = refl
 
   useful-within : useful t k c ≡ true → k ≤ blockCount t
@@ -67,8 +67,8 @@ module _ (t u : Task) (k c : ℕ) where
 
   -- the second: they come after those of the first, in the same cache
   on-second : Agreeing t u → onLine (joined t u) c ≡ onLine u c
-  unfolding joined onLine lineOf bypasses
-  on-second a = fun-ext (λ m. rw (a .lines, a .firsts, a .counts))
+  unfolding joined joinedHeader onLine lineOf bypasses
+  on-second a = fun-ext (λ m. rw (a .lines, a .ranges))
 
   pub useful-second : Agreeing t u → useful u k c ≡ true → useful (joined t u) (blockCount t + k) c ≡ true
   unfolding useful stateAfter nextRead joined

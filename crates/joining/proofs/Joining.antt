@@ -14,8 +14,8 @@ use Rattle.taskfile.specs.File.{taskOf, fileOf, verdict}
 use Rattle.taskfile.proofs.Files.{accepted-within}
 use Rattle.taskfile.proofs.Tasks.{length-file, file-then-task}
 use Rattle.writer.specs.Writing.{outputRow}
-use Rattle.joining.specs.Joining.{joined}
-use Rattle.joining.specs.Calls.{agreeRow, countsRow, joinRows, joinVerdict, joinLeft}
+use Rattle.joining.specs.Joining.{joinedHeader, joined}
+use Rattle.joining.specs.Calls.{agreeRow, totalsRow, joinRows, joinVerdict, joinLeft}
 use Rattle.joining.specs.Statements.{JoinedAccepted, JoinedInOrder, FirstContained, SecondContained}
 use Rattle.joining.proofs.Tasks.{Agreeing, agreeing, agreeing-agree, few-fit, counts-fit, RowsAccept, rows-accept, count-joined, preempters-joined, within-joined, joined-assoc}
 use Rattle.joining.proofs.Contained.{useful-first, useful-second}
@@ -56,7 +56,7 @@ second-contained first second out e k c h =
 join-accepts : (first second out : List ℕ) → verdict first ≡ Accepted → verdict second ≡ Accepted → Agreeing (taskOf first) (taskOf second)
     → blockCount (joined (taskOf first) (taskOf second)) ≤ 64 → length (joined (taskOf first) (taskOf second) .preempters) ≤ 32
     → length out ≡ length (fileOf (joined (taskOf first) (taskOf second))) → joinVerdict first second out ≡ Accepted
-unfolding joinVerdict joinRows agreeRow countsRow outputRow
+unfolding joinVerdict joinRows agreeRow totalsRow outputRow
 join-accepts first second out e f a h l long =
     let t : Task = taskOf first in
     let u : Task = taskOf second in
@@ -67,13 +67,12 @@ join-accepts first second out e f a h l long =
 
 -- a joined task agrees with what both of its parts agree with
 agree-left : (t u v : Task) → Agreeing t u → Agreeing u v → Agreeing (joined t u) v
-unfolding joined
-agree-left t u v a b =
-    record { lines = a .lines ∙ b .lines; reloads = a .reloads ∙ b .reloads; firsts = a .firsts ∙ b .firsts; counts = a .counts ∙ b .counts }
+unfolding joined joinedHeader
+agree-left t u v a b = record { lines = a .lines ∙ b .lines; reloads = a .reloads ∙ b .reloads; ranges = a .ranges ∙ b .ranges }
 
 agree-right : (t u v : Task) → Agreeing t u → Agreeing t (joined u v)
-unfolding joined
-agree-right t u v a = record { lines = a .lines; reloads = a .reloads; firsts = a .firsts; counts = a .counts }
+unfolding joined joinedHeader
+agree-right t u v a = record { lines = a .lines; reloads = a .reloads; ranges = a .ranges }
 
 pub joined-in-order : JoinedInOrder
 joined-in-order f g h two other three a b c all l₁ l₂ l₃ =

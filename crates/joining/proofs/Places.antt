@@ -13,10 +13,10 @@ use Rattle.taskfile.specs.File.{taskOf, verdict}
 use Rattle.taskfile.proofs.Places.{verdict-most}
 use Rattle.writer.specs.Writing.{outputRow}
 use Rattle.joining.specs.Joining.{joined, agree, countsFit}
-use Rattle.joining.specs.Calls.{agreeRow, countsRow, joinRows, joinVerdict}
+use Rattle.joining.specs.Calls.{agreeRow, totalsRow, joinRows, joinVerdict}
 
 pub join-most : (first second out : List ℕ) → verdictPlace (joinVerdict first second out) ≤ mostBlocks
-unfolding joinVerdict joinRows agreeRow countsRow outputRow
+unfolding joinVerdict joinRows agreeRow totalsRow outputRow
 join-most first second out =
     let t = taskOf first in
     let u = taskOf second in
@@ -25,5 +25,5 @@ join-most first second out =
     then-most (verdict first) _ mostBlocks (verdict-most first)
     (λ a. then-most (verdict second) _ mostBlocks (verdict-most second)
     (λ b. then-most (agreeRow t u) _ mostBlocks (test-most (agree t u) Mismatch mostBlocks (omega arith))
-    (λ c. then-most (countsRow n m) _ mostBlocks (test-most (countsFit n m) TooManyBlocks mostBlocks (omega arith))
+    (λ c. then-most (totalsRow n m) _ mostBlocks (test-most (countsFit n m) TooManyBlocks mostBlocks (omega arith))
     (λ d. test-most (eqb (length out) (512 * (1 + n + m))) Output mostBlocks (omega arith)))))

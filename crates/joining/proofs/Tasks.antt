@@ -8,7 +8,7 @@ use native.Mathlib.Omega.{arith}
 use lib.Dec.{eqb, leb}
 use lib.ListN.{length, length-append}
 use borrow.Author.Tests.{eqb-true, leb-true, eq-eqb, le-leb}
-use Rattle.model.specs.Task.{Task, blockCount}
+use Rattle.model.specs.Task.{Task, blockCount, lineCount}
 use Rattle.model.specs.declared.Refusal.the-variants.{Output, Mismatch, TooManyBlocks}
 use Rattle.model.specs.declared.Verdict.the-variants.{Accepted}
 use Rattle.model.proofs.Verdicts.{row-holds, both-accepted}
@@ -16,10 +16,9 @@ use Rattle.block.specs.Bytes.{Each}
 use Rattle.block.proofs.Each.{each-append}
 use Rattle.taskfile.specs.File.{countsInRange, headerInRange, headerNumbers, EntryWithin, Within}
 use Rattle.taskfile.proofs.Accepted.{in-range}
-use Rattle.writer.specs.Writing.{outputRow, headerOf}
-use Rattle.writer.specs.declared.Header.{Header}
-use Rattle.joining.specs.Joining.{joined, agree, countsFit, Totals}
-use Rattle.joining.specs.Calls.{agreeRow, countsRow, joinRows}
+use Rattle.writer.specs.Writing.{outputRow}
+use Rattle.joining.specs.Joining.{joinedHeader, joined, agree, countsFit}
+use Rattle.joining.specs.Calls.{agreeRow, totalsRow, joinRows}
 
 module _ (t u : Task) where
   pub count-joined : blockCount (joined t u) ≡ blockCount t + blockCount u
@@ -30,29 +29,29 @@ module _ (t u : Task) where
   unfolding joined
   preempters-joined = length-append (t .preempters) (u .preempters)
 
--- the numbers of the joined header
-pub header-joined : (t u : Task) (h : Header) → Totals (joined t u) (h .blocks) (h .preempters) → h .lines ≡ t .lineCount → h .limit ≡ min (t .limit) (u .limit)
-    → h .reload ≡ t .reload → h .id ≡ t .id → h .«scratch_first» ≡ t .scratchFirst → h .«scratch_count» ≡ t .scratchCount → headerOf (joined t u) ≡ h
-unfolding joined
-header-joined t u h totals e₁ e₂ e₃ e₄ e₅ e₆ = rw (← totals .blocks, ← totals .preempters, ← e₁, ← e₂, ← e₃, ← e₄, ← e₅, ← e₆)
-
 pub record Agreeing (t u : Task) : Type 0 where
-  pub lines : t .lineCount ≡ u .lineCount
-  pub reloads : t .reload ≡ u .reload
-  pub firsts : t .scratchFirst ≡ u .scratchFirst
-  pub counts : t .scratchCount ≡ u .scratchCount
+  pub lines : lineCount t ≡ lineCount u
+  pub reloads : t .header .reload ≡ u .header .reload
+  pub ranges : t .header .scratch ≡ u .header .scratch
 
 pub agreeing : (t u : Task) → agree t u ≡ true → Agreeing t u
 unfolding agree
 agreeing t u e =
-    let a = and-eq-true-iff (eqb (t .lineCount) (u .lineCount) && eqb (t .reload) (u .reload) && eqb (t .scratchFirst) (u .scratchFirst)) _ .0 e in
-    let b = and-eq-true-iff (eqb (t .lineCount) (u .lineCount) && eqb (t .reload) (u .reload)) _ .0 (a .0) in
-    let c = and-eq-true-iff (eqb (t .lineCount) (u .lineCount)) _ .0 (b .0) in
-    record { lines = eqb-true _ _ (c .0); reloads = eqb-true _ _ (c .1); firsts = eqb-true _ _ (b .1); counts = eqb-true _ _ (a .1) }
+    let a = t .header in
+    let b = u .header in
+    let all = and-eq-true-iff (eqb (a .«line_count») (b .«line_count») && eqb (a .reload) (b .reload) && eqb (a .scratch .first) (b .scratch .first)) _ .0 e in
+    let three = and-eq-true-iff (eqb (a .«line_count») (b .«line_count») && eqb (a .reload) (b .reload)) _ .0 (all .0) in
+    let two = and-eq-true-iff (eqb (a .«line_count») (b .«line_count»)) _ .0 (three .0) in
+    record {
+      lines = eqb-true _ _ (two .0);
+      reloads = eqb-true _ _ (two .1);
+      ranges = λ i. record { first = eqb-true (a .scratch .first) (b .scratch .first) (three .1) i; count = eqb-true (a .scratch .count) (b .scratch .count) (all .1) i };
+    }
 
 pub agreeing-agree : (t u : Task) → Agreeing t u → agree t u ≡ true
 unfolding agree
-agreeing-agree t u a = rw (eq-eqb _ _ (a .lines), eq-eqb _ _ (a .reloads), eq-eqb _ _ (a .firsts), eq-eqb _ _ (a .counts))
+agreeing-agree t u a =
+    rw (a .lines, a .reloads, a .ranges, eq-eqb (lineCount u) _ refl, eq-eqb (u .header .reload) _ refl, eq-eqb (u .header .scratch .first) _ refl, eq-eqb (u .header .scratch .count) _ refl)
 
 pub counts-fit : (n m : ℕ) → countsFit n m ≡ true → (n ≤ 64) × (m ≤ 32)
 unfolding countsFit
@@ -69,12 +68,12 @@ pub record RowsAccept (t u : Task) (size : ℕ) : Type 0 where
   pub long : size ≡ 512 * (1 + blockCount (joined t u) + length (joined t u .preempters))
 
 pub rows-accept : (t u : Task) (size : ℕ) → joinRows t u size ≡ Accepted → RowsAccept t u size
-unfolding joinRows agreeRow countsRow outputRow
+unfolding joinRows agreeRow totalsRow outputRow
 rows-accept t u size e =
     let n = blockCount (joined t u) in
     let m = length (joined t u .preempters) in
     let first = both-accepted (agreeRow t u) _ e in
-    let second = both-accepted (countsRow n m) (outputRow n m size) (first .1) in
+    let second = both-accepted (totalsRow n m) (outputRow n m size) (first .1) in
     record {
       agreed = row-holds Mismatch _ (first .0);
       fit = row-holds TooManyBlocks _ (second .0);
@@ -84,25 +83,28 @@ rows-accept t u size e =
 -- the joined task is within the limits of a file
 pub within-joined : (t u : Task) → Within t → Within u → countsFit (blockCount (joined t u)) (length (joined t u .preempters)) ≡ true
     → Within (joined t u)
-unfolding joined headerInRange countsInRange headerNumbers Each
+unfolding joined joinedHeader headerInRange countsInRange headerNumbers Each
 within-joined t u a b f =
     let n : ℕ = blockCount (joined t u) in
     let m : ℕ = length (joined t u .preempters) in
-    let s : ℕ = t .lineCount in
+    let s : ℕ = lineCount t in
     let range = in-range t (a .in-range) in
     let fit = counts-fit n m f in
     let least : 1 ≤ n = omega (arith, count-joined t u) in
     let scratch = and-eq-true-iff (countsInRange (blockCount t) (length (t .preempters)) s) _ .0 (a .in-range) .1 in
     record {
       in-range = rw (le-leb 1 n least, le-leb n 64 (fit .0), le-leb m 32 (fit .1), le-leb 1 s (range .3), le-leb s 512 (range .4), scratch) refl;
-      numbers = (omega arith, (omega arith, (omega arith, (omega arith, (omega arith, (omega arith, (omega arith, (omega arith, (omega arith, (omega arith, tt))))))))));
+      numbers = omega arith;
       blocks = each-append (λ b. EntryWithin (b .time) (b .reads)) (t .blocks) (u .blocks) (a .blocks) (b .blocks);
       preempters = each-append (λ p. EntryWithin (p .id) (p .reads)) (t .preempters) (u .preempters) (a .preempters) (b .preempters);
     }
 
 -- joining is associative
 pub joined-assoc : (t u v : Task) → joined (joined t u) v ≡ joined t (joined u v)
-unfolding joined
+unfolding joined joinedHeader
 joined-assoc t u v =
-    let limits : min (min (t .limit) (u .limit)) (v .limit) ≡ min (t .limit) (min (u .limit) (v .limit)) = omega arith in
+    let a = t .header in
+    let b = u .header in
+    let c = v .header in
+    let limits : min (min (a .limit) (b .limit)) (c .limit) ≡ min (a .limit) (min (b .limit) (c .limit)) = omega arith in
     rw (append-assoc (t .blocks) (u .blocks) (v .blocks), append-assoc (t .preempters) (u .preempters) (v .preempters), limits)

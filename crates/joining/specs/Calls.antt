@@ -18,15 +18,15 @@ unfoldable pub agreeRow : Task → Task → Verdict
 agreeRow t u = cond (agree t u) Accepted (Refused Mismatch)
 
 -- refusal 12: too many basic blocks or preempters
-unfoldable pub countsRow : ℕ → ℕ → Verdict
-countsRow n m = cond (countsFit n m) Accepted (Refused TooManyBlocks)
+unfoldable pub totalsRow : ℕ → ℕ → Verdict
+totalsRow n m = cond (countsFit n m) Accepted (Refused TooManyBlocks)
 
 -- the rows about two tasks and a buffer of this length, in their order; N and M are those of the joined task
 unfoldable pub joinRows : Task → Task → ℕ → Verdict
 joinRows t u size =
     let n = blockCount (joined t u) in
     let m = length (joined t u .preempters) in
-    andThen (agreeRow t u) (andThen (countsRow n m) (outputRow n m size))
+    andThen (agreeRow t u) (andThen (totalsRow n m) (outputRow n m size))
 
 -- the answer: the first file's refusals, then the second's, then these rows
 unfoldable pub joinVerdict : List ℕ → List ℕ → List ℕ → Verdict

@@ -6,18 +6,17 @@ use mathlib.Core.List.{_++_}
 use lib.Dec.{eqb, leb}
 use lib.ListN.{length}
 use Rattle.model.specs.Task.{Task, blockCount}
+use Rattle.model.specs.declared.Header.{Header}
 
--- basic blocks of the first, then of the second, and preempters (the document's interrupters) likewise; the smaller limit and the first's id.
--- S, R and the scratch range are those of both
+-- the smaller limit and the first's id; S, R and the scratch range are those of both
+unfoldable pub joinedHeader : Header → Header → Header
+joinedHeader a b = record { «line_count» = a .«line_count»; limit = min (a .limit) (b .limit); reload = a .reload; id = a .id; scratch = a .scratch }
+
+-- basic blocks of the first, then of the second, and preempters (the document's interrupters) likewise
 unfoldable pub joined : Task → Task → Task
 joined t u =
     record {
-      id = t .id;
-      lineCount = t .lineCount;
-      limit = min (t .limit) (u .limit);
-      reload = t .reload;
-      scratchFirst = t .scratchFirst;
-      scratchCount = t .scratchCount;
+      header = joinedHeader (t .header) (u .header);
       blocks = t .blocks ++ u .blocks;
       preempters = t .preempters ++ u .preempters;
     }
@@ -25,7 +24,10 @@ joined t u =
 -- S, R and the scratch range are equal; of the range both numbers are compared, also where it is empty
 unfoldable pub agree : Task → Task → Bool
 agree t u =
-    eqb (t .lineCount) (u .lineCount) && eqb (t .reload) (u .reload) && eqb (t .scratchFirst) (u .scratchFirst) && eqb (t .scratchCount) (u .scratchCount)
+    let a = t .header in
+    let b = u .header in
+    eqb (a .«line_count») (b .«line_count») && eqb (a .reload) (b .reload) && eqb (a .scratch .first) (b .scratch .first) &&
+    eqb (a .scratch .count) (b .scratch .count)
 
 -- so many basic blocks and preempters have room in a file
 unfoldable pub countsFit : ℕ → ℕ → Bool

@@ -8,14 +8,14 @@ ghost use Rattle.model.specs.Task.{blockCount};
 ghost use Rattle.model.specs.Answers.{onAccepted};
 ghost use Rattle.block.specs.Bytes.{packed};
 ghost use Rattle.block.specs.Blocks.{numbered};
-ghost use Rattle.taskfile.specs.File.{basicBytes, preempterBytes, headerNumbers, taskOf, fileOf, IsAccepted};
+ghost use Rattle.taskfile.specs.File.{basicBytes, preempterBytes, taskNumbers, taskOf, fileOf, IsAccepted};
 ghost use Rattle.writer.specs.Writing.{Written};
 ghost use Rattle.joining.specs.Joining.{joined, agree, Totals};
-ghost use Rattle.joining.specs.Calls.{agreeRow, countsRow, joinRows, joinVerdict, joinInput, joinLeft};
+ghost use Rattle.joining.specs.Calls.{agreeRow, totalsRow, joinRows, joinVerdict, joinInput, joinLeft};
+use model::Header;
 use model::Input;
 use model::Refusal;
 use model::Verdict;
-use writer::Header;
 
 // The answer of a join, and whose refusal it is.
 pub struct Joined {
@@ -35,16 +35,18 @@ fn same_cache(first: &[u8], second: &[u8]) -> bool
     requires { ⌜ IsAccepted (now first) × IsAccepted (now second) ⌝ }
     ensures { λ r. ⌜ r ≡ agree (taskOf (now (first .entry))) (taskOf (now (second .entry))) ⌝ }
 {
-    if taskfile::line_count(first) != taskfile::line_count(second) {
+    let a = taskfile::header(first);
+    let b = taskfile::header(second);
+    if a.line_count != b.line_count {
         return false;
     }
-    if taskfile::reload(first) != taskfile::reload(second) {
+    if a.reload != b.reload {
         return false;
     }
-    if taskfile::scratch_first(first) != taskfile::scratch_first(second) {
+    if a.scratch.first != b.scratch.first {
         return false;
     }
-    taskfile::scratch_count(first) == taskfile::scratch_count(second)
+    a.scratch.count == b.scratch.count
 }
 
 // Refuses accepted files of different caches.
@@ -60,8 +62,8 @@ fn check_agree(first: &[u8], second: &[u8]) -> Verdict
 }
 
 // Refuses more basic blocks or preempters than a file has room for.
-fn check_counts(blocks: usize, preempters: usize) -> Verdict
-    ensures { λ r. ⌜ r ≡ countsRow blocks preempters ⌝ }
+fn check_totals(blocks: usize, preempters: usize) -> Verdict
+    ensures { λ r. ⌜ r ≡ totalsRow blocks preempters ⌝ }
 {
     if blocks > 64 {
         return Verdict::Refused(Refusal::TooManyBlocks);
@@ -72,29 +74,25 @@ fn check_counts(blocks: usize, preempters: usize) -> Verdict
     Verdict::Accepted
 }
 
+// The header of the joined task: the first's, with the smaller limit.
+fn joined_header(first: &[u8], second: &[u8]) -> Header
+    requires { ⌜ IsAccepted (now first) × IsAccepted (now second) ⌝ }
+    ensures { λ r. ⌜ r ≡ joined (taskOf (now (first .entry))) (taskOf (now (second .entry))) .header ⌝ }
+{
+    let mut header = taskfile::header(first);
+    let other = taskfile::header(second);
+    header.limit = smaller(header.limit, other.limit);
+    header
+}
+
 // Stores the header of the joined task, which has so many basic blocks and preempters.
 fn put_header(block: &mut [u8], first: &[u8], second: &[u8], blocks: usize, preempters: usize)
     requires { ⌜ (length (now block) ≡ 512) × IsAccepted (now first) × IsAccepted (now second) ⌝ }
     requires { ⌜ Totals (joined (taskOf (now first)) (taskOf (now second))) blocks preempters ⌝ }
-    ensures { λ _. ⌜ take 508 (now (block .exit)) ≡ numbered 0 (packed (headerNumbers (joined (taskOf (now (first .entry))) (taskOf (now (second .entry)))))) ⌝ }
+    ensures { λ _. ⌜ take 508 (now (block .exit)) ≡ numbered 0 (packed (taskNumbers (joined (taskOf (now (first .entry))) (taskOf (now (second .entry)))))) ⌝ }
 {
-    let lines = taskfile::line_count(first) as u16;
-    let limit = smaller(taskfile::limit(first), taskfile::limit(second));
-    let reload = taskfile::reload(first);
-    let id = taskfile::id(first);
-    let scratch_first = taskfile::scratch_first(first);
-    let scratch_count = taskfile::scratch_count(first);
-    let header = Header {
-        blocks: blocks as u16,
-        preempters: preempters as u16,
-        lines,
-        limit,
-        reload,
-        id,
-        scratch_first,
-        scratch_count,
-    };
-    writer::put_header(block, header);
+    let header = joined_header(first, second);
+    writer::put_header(block, blocks as u16, preempters as u16, header);
 }
 
 // Copies the basic blocks of both files, all but their checksums.
@@ -160,7 +158,7 @@ fn join_accepted(out: &mut [u8], first: &[u8], second: &[u8]) -> Verdict
     let blocks = taskfile::block_count(first) + taskfile::block_count(second);
     let preempters = taskfile::preempter_count(first) + taskfile::preempter_count(second);
     let agree = check_agree(first, second);
-    let counts = check_counts(blocks, preempters);
+    let counts = check_totals(blocks, preempters);
     let output = writer::check_output(blocks as u32, preempters as u32, out.len());
     let verdict = answers::earlier(agree, answers::earlier(counts, output));
     match verdict {

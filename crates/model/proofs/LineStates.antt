@@ -11,7 +11,7 @@ use borrow.Author.Tests.{ne-eqb, le-ltb, leb-true}
 use mathlib.Core.Path.{_≡_, refl, sym, ap, _∙_}
 use mathlib.Core.Bool.{Bool, true, false, cond, _&&_, _||_, or-assoc, or-false, true≢false}
 use mathlib.Core.List.{List, [], _∷_, _++_}
-use Rattle.model.specs.Task.{Task, blockCount}
+use Rattle.model.specs.Task.{Task, blockCount, lineCount}
 use Rattle.model.specs.Lines.{bypasses, lineOf, isLine, onLine, lastRead, firstRead, anyRead, sameBlock, readsOf, preempterReads, stateAfter, nextRead, useful, evicted}
 use Rattle.model.specs.Laws.{EmptyNotUseful, UsefulStart, UsefulEnd, NoScratch}
 use Rattle.model.specs.declared.Line.{Line}
@@ -84,10 +84,10 @@ module _ (t : Task) (m : ℕ) where
 
 pub no-scratch : NoScratch
 unfolding lineOf bypasses
-no-scratch t m e = rw (e, outside (leb (t .scratchFirst) m) refl) refl
+no-scratch t m e = rw (e, outside (leb (t .header .scratch .first) m) refl) refl
   where
-    outside : (b : Bool) → leb (t .scratchFirst) m ≡ b → (b && ltb m (t .scratchFirst + 0)) ≡ false
-    outside true h = le-ltb m (t .scratchFirst + 0) (omega (arith, leb-true (t .scratchFirst) m h))
+    outside : (b : Bool) → leb (t .header .scratch .first) m ≡ b → (b && ltb m (t .header .scratch .first + 0)) ≡ false
+    outside true h = le-ltb m (t .header .scratch .first + 0) (omega (arith, leb-true (t .header .scratch .first) m h))
     outside false h = refl
 
 pub never-empty : (l : Line) → sameBlock l Empty ≡ false
@@ -113,14 +113,14 @@ unfolding useful nextRead readsOf firstRead
 useful-end t c = rw (drop-length (t .blocks)) (never-empty (stateAfter t (blockCount t) c))
 
 -- no number lies on a line beyond the cache, so none is useful there
-module _ (t : Task) (least : 1 ≤ t .lineCount) (c : ℕ) (beyond : t .lineCount ≤ c) where
+module _ (t : Task) (least : 1 ≤ lineCount t) (c : ℕ) (beyond : lineCount t ≤ c) where
   off-beyond : (m : ℕ) → onLine t c m ≡ false
   unfolding onLine lineOf
   off-beyond m = go (bypasses t m)
     where
-      go : (b : Bool) → isLine c (cond b Uncached (Cached (m % t .lineCount))) ≡ false
+      go : (b : Bool) → isLine c (cond b Uncached (Cached (m % lineCount t))) ≡ false
       go true = refl
-      go false = ne-eqb c (m % t .lineCount) (λ e. omega (arith, mod-lt m least))
+      go false = ne-eqb c (m % lineCount t) (λ e. omega (arith, mod-lt m least))
 
   pub unread-beyond : (xs : List ℕ) → anyRead (onLine t c) xs ≡ false
   unfolding anyRead

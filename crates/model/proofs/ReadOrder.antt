@@ -6,7 +6,7 @@ use mathlib.Core.List.{List, [], _∷_, _++_, append-assoc, append-nil}
 use native.Mathlib.Omega.{arith}
 use lib.ListN.{length, getD, take, drop, take-append-drop, length-append, List·getD-append}
 use lib.Seq.{take-add, take-suc, take-length, drop-cons, take-append-seam, drop-append-seam, getD-append-add}
-use Rattle.model.specs.Task.{Block, Task, blockCount}
+use Rattle.model.specs.Task.{Block, Task, blockCount, noBlock}
 use Rattle.model.specs.Lines.{readsOf, blockAt}
 
 pub reads-append : (xs ys : List Block) → readsOf (xs ++ ys) ≡ readsOf xs ++ readsOf ys
@@ -43,13 +43,13 @@ module _ (t : Task) where
   pub edge-suc : (i : ℕ) → i < blockCount t → edge t (suc i) ≡ edge t i + length (blockAt t i .reads)
   unfolding blockAt readsOf
   edge-suc i h =
-      rw (take-suc (t .blocks) i (record { time = 0; reads = [] }) h, reads-append (take i (t .blocks)))
+      rw (take-suc (t .blocks) i noBlock h, reads-append (take i (t .blocks)))
       (rw (length-append (readsOf (take i (t .blocks))), append-nil) refl)
 
   -- the reads after edge i are those of block i + 1 and those after it
   pub reads-from : (i : ℕ) → i < blockCount t → readsOf (drop i (t .blocks)) ≡ blockAt t i .reads ++ readsOf (drop (suc i) (t .blocks))
   unfolding blockAt readsOf
-  reads-from i h = ap readsOf (drop-cons (t .blocks) i (record { time = 0; reads = [] }) h)
+  reads-from i h = ap readsOf (drop-cons (t .blocks) i noBlock h)
 
   -- read j of block i + 1
   pub read-at : (i j : ℕ) → i < blockCount t → j < length (blockAt t i .reads) → getD (allReads t) (edge t i + j) 0 ≡ getD (blockAt t i .reads) j 0

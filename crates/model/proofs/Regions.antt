@@ -23,12 +23,12 @@ use Rattle.model.specs.declared.Verdict.the-variants.{Accepted}
 use Rattle.model.proofs.Digits.{count-le, count-within}
 use Rattle.model.proofs.Lists.{lowest-none, none-lowest}
 
-scaled : (t : Task) (rs : List Region) → total (regionCost t) rs ≡ t .reload * total (regionLines t) rs
+scaled : (t : Task) (rs : List Region) → total (regionCost t) rs ≡ t .header .reload * total (regionLines t) rs
 unfolding total regionCost
-scaled t [] = sym (mul-zero (t .reload))
+scaled t [] = sym (mul-zero (t .header .reload))
 scaled t (r ∷ rs) =
-    ap (λ (n : ℕ). t .reload * regionLines t (r .from) (r .to) + n) (scaled t rs) ∙
-    sym (mul-add (t .reload) (regionLines t (r .from) (r .to)) (total (regionLines t) rs))
+    ap (λ (n : ℕ). t .header .reload * regionLines t (r .from) (r .to) + n) (scaled t rs) ∙
+    sym (mul-add (t .header .reload) (regionLines t (r .from) (r .to)) (total (regionLines t) rs))
 
 pub cost-of-lines : CostOfLines
 cost-of-lines t ps = scaled t (regions (blockCount t) 0 ps)
@@ -85,7 +85,7 @@ module _ (t : Task) (a b c : ℕ) (h : b ≤ c) where
   unfolding regionLength regionLines
   length-grows =
       let time = rw (← more) at (time-grows t a (b - a) (c - a - (b - a))) in
-      omega (arith, time, mul-le-mul (le-refl (t .reload)) (count-within 512 loaded-grows))
+      omega (arith, time, mul-le-mul (le-refl (t .header .reload)) (count-within 512 loaded-grows))
 
   -- where a region does not fit, no longer one from the same edge does
   pub longer-above : regionFits t a b ≡ false → regionFits t a c ≡ false

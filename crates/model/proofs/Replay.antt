@@ -13,7 +13,7 @@ use lib.ListN.{length, take, drop, take-append-drop, length-drop}
 use lib.Seq.{length-take-le, take-suc, take-add, take-all, getD-drop, drop-drop}
 use borrow.Author.Tests.{eq-eqb, ne-eqb, ltb-true}
 use Rattle.model.specs.Sets.{Lines, listed, bit, countBelow}
-use Rattle.model.specs.Task.{Block, Task, blockCount}
+use Rattle.model.specs.Task.{Block, Task, blockCount, lineCount, noBlock}
 use Rattle.model.specs.Lines.{bypasses, lineOf, isLine, onLine, lastRead, firstRead, anyRead, sameBlock, readsOf, blockAt, stateAfter, nextRead, useful, accessed, evicted}
 use Rattle.model.specs.Lists.{steps, regions, every, total, rightPoint}
 use Rattle.model.specs.Regions.{unionAfter, loaded, regionLines, lines}
@@ -126,7 +126,7 @@ module _ (t : Task) where
   union-reads a (suc n) c h =
       rw (
         add-suc,
-        take-suc (drop a (t .blocks)) n (record { time = 0; reads = [] }) (omega (arith, length-drop a (t .blocks))),
+        take-suc (drop a (t .blocks)) n noBlock (omega (arith, length-drop a (t .blocks))),
         reads-append,
         any-append,
         getD-drop,
@@ -162,16 +162,16 @@ module _ (t : Task) where
           and-false (sameBlock l (firstRead on ys) && h) ∙
           sym (ap (λ (f : Line). h && sameBlock l f) (first-none on xs e) ∙ ap (λ (x : Bool). h && x) (never-empty l) ∙ and-false h)
 
-  module _ (least : 1 ≤ t .lineCount) (most : t .lineCount ≤ 512) where
+  module _ (least : 1 ≤ lineCount t) (most : lineCount t ≤ 512) where
     -- a read's miss: the lines on which it is one, of which there is one at most
     miss-lines : (s : Cache) (m : ℕ) → bit (miss t s m) ≡ countBelow 512 (λ c. onLine t c m && not (sameBlock (s c) (Held m)))
     unfolding miss onLine lineOf
     miss-lines s m = go (bypasses t m)
       where
-        go : (b : Bool) → bit (missAt s m (cond b Uncached (Cached (m % t .lineCount))))
-            ≡ countBelow 512 (λ c. isLine c (cond b Uncached (Cached (m % t .lineCount))) && not (sameBlock (s c) (Held m)))
+        go : (b : Bool) → bit (missAt s m (cond b Uncached (Cached (m % lineCount t))))
+            ≡ countBelow 512 (λ c. isLine c (cond b Uncached (Cached (m % lineCount t))) && not (sameBlock (s c) (Held m)))
         go true = sym (count-none 512 (λ c. false) (λ c l. refl))
-        go false = sym (count-one 512 (m % t .lineCount) (λ c. not (sameBlock (s c) (Held m))) (omega (arith, mod-lt m least)))
+        go false = sym (count-one 512 (m % lineCount t) (λ c. not (sameBlock (s c) (Held m))) (omega (arith, mod-lt m least)))
 
     -- a read of m with some lines lost and with none; f is each line's read after it
     read-misses : (lost : Lines) (s : Cache) (m : ℕ) (f : ℕ → Line)

@@ -12,7 +12,7 @@ use Rattle.model.specs.Replay.{Cache, emptyCache, miss, fetch, misses, a
 -- all that answers are made of is the same of two tasks
 pub record SeenAlike (t u : Task) : Type 0 where
   pub count : blockCount t ≡ blockCount u
-  pub id : t .id ≡ u .id
+  pub header : t .header ≡ u .header
   pub next-read : nextRead t ≡ nextRead u
   pub looked-at : readsLookedAt t ≡ readsLookedAt u
   pub useful-lines : useful t ≡ useful u
@@ -108,7 +108,7 @@ module _ (t : Task) (ps : List Preempter) (same : (c : ℕ) → evicted t c ≡ 
   replaced-alike =
       record {
         count = refl;
-        id = refl;
+        header = refl;
         next-read = next-same;
         looked-at = looked-same;
         useful-lines = useful-same;

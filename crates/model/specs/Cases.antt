@@ -13,6 +13,7 @@ use Rattle.model.specs.Regions.{loaded, regionLength, lines, cost, fits,
 use Rattle.model.specs.Replay.{missesAlone, missesWith}
 use Rattle.model.specs.Answers.{pricing, number, place}
 use Rattle.model.specs.Planning.{chosen, Planned}
+use Rattle.model.specs.declared.Header.{Header}
 use Rattle.model.specs.declared.Next.{Next}
 use Rattle.model.specs.declared.Next.the-variants.{Read, Never}
 use Rattle.model.specs.declared.Plan.{Plan}
@@ -67,16 +68,15 @@ block time reads = record { time = time; reads = reads }
 abbrev pub preempter : List ℕ → Preempter
 preempter reads = record { id = 0; reads = reads }
 
+-- a header with S lines, the limit Q, R ticks for a reload, and the numbers below count in its scratch range; its id is File Seven's
+abbrev pub header : ℕ → ℕ → ℕ → ℕ → Header
+header s q r count = record { «line_count» = s; limit = q; reload = r; id = 7; scratch = record { first = 0; count = count } }
+
 -- File Seven, with S lines, the limit Q, and the numbers below count in its scratch range
 abbrev pub scratchSeven : ℕ → ℕ → ℕ → Task
 scratchSeven s q count =
     record {
-      id = 7;
-      lineCount = s;
-      limit = q;
-      reload = 10;
-      scratchFirst = 0;
-      scratchCount = count;
+      header = header s q 10 count;
       blocks = block 20 (0 ∷ 1 ∷ []) ∷ block 20 (2 ∷ []) ∷ block 20 (0 ∷ []) ∷ block 20 (5 ∷ 0 ∷ []) ∷ [];
       preempters = preempter (4 ∷ 1 ∷ []) ∷ [];
     }
@@ -87,18 +87,13 @@ fileSeven s q = scratchSeven s q 0
 
 -- one basic block of 60 ticks
 abbrev pub oneBlock : ℕ → Task
-oneBlock q = record { id = 7; lineCount = 4; limit = q; reload = 10; scratchFirst = 0; scratchCount = 0; blocks = block 60 [] ∷ []; preempters = [] }
+oneBlock q = record { header = header 4 q 10 0; blocks = block 60 [] ∷ []; preempters = [] }
 
 -- a number that is read for the last time after the only point, on a line that the preempter evicts
 abbrev pub readTwice : Task
 readTwice =
     record {
-      id = 7;
-      lineCount = 4;
-      limit = 60;
-      reload = 10;
-      scratchFirst = 0;
-      scratchCount = 0;
+      header = header 4 60 10 0;
       blocks = block 20 (0 ∷ []) ∷ block 20 (0 ∷ []) ∷ [];
       preempters = preempter (4 ∷ []) ∷ [];
     }
@@ -107,12 +102,7 @@ readTwice =
 abbrev pub sameRead : Task
 sameRead =
     record {
-      id = 7;
-      lineCount = 4;
-      limit = 60;
-      reload = 10;
-      scratchFirst = 0;
-      scratchCount = 0;
+      header = header 4 60 10 0;
       blocks = block 20 (0 ∷ []) ∷ block 20 (0 ∷ []) ∷ block 20 (0 ∷ []) ∷ block 20 (0 ∷ []) ∷ [];
       preempters = preempter (4 ∷ []) ∷ [];
     }
@@ -121,12 +111,7 @@ sameRead =
 abbrev pub appendixA : Task
 appendixA =
     record {
-      id = 1;
-      lineCount = 16;
-      limit = 0;
-      reload = 390;
-      scratchFirst = 0;
-      scratchCount = 0;
+      header = header 16 0 390 0;
       blocks =
           block 0 (1 ∷ 2 ∷ []) ∷ block 0 (3 ∷ 4 ∷ 8 ∷ []) ∷ block 0 (4 ∷ 5 ∷ 6 ∷ 8 ∷ []) ∷ block 0 (1 ∷ 2 ∷ 7 ∷ 8 ∷ []) ∷
           block 0 (1 ∷ 2 ∷ 7 ∷ 8 ∷ []) ∷ block 0 (1 ∷ 2 ∷ 7 ∷ 8 ∷ []) ∷ [];

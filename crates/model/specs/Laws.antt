@@ -7,7 +7,7 @@ use mathlib.Core.Logic.{_⊎_}
 use mathlib.Core.List.{List, [], _∷_, List·Memᴰ}
 use lib.Count.{ones}
 use Rattle.model.specs.Sets.{Lines, size, words, inWords}
-use Rattle.model.specs.Task.{Task, blockCount}
+use Rattle.model.specs.Task.{Task, blockCount, lineCount}
 use Rattle.model.specs.Lines.{lineOf, stateAfter, useful}
 use Rattle.model.specs.Lists.{wellFormed, before, FirstOfLeast, among, allLists}
 use Rattle.model.specs.Regions.{lines, cost}
@@ -46,11 +46,11 @@ UsefulEnd = (t : Task) (c : ℕ) → useful t (blockCount t) c ≡ false
 
 -- with no scratch range the line of a number is its remainder by S, so that files with zeros there answer as before (document 02, item 5)
 abbrev pub NoScratch : Type 0
-NoScratch = (t : Task) (m : ℕ) → t .scratchCount ≡ 0 → lineOf t m ≡ Cached (m % t .lineCount)
+NoScratch = (t : Task) (m : ℕ) → t .header .scratch .count ≡ 0 → lineOf t m ≡ Cached (m % lineCount t)
 
 -- a list's price is R times its lines
 abbrev pub CostOfLines : Type 0
-CostOfLines = (t : Task) (ps : List ℕ) → cost t ps ≡ t .reload * lines t ps
+CostOfLines = (t : Task) (ps : List ℕ) → cost t ps ≡ t .header .reload * lines t ps
 
 -- all lists of points, of which demand 3 speaks and which the cases try: every well-formed list, the empty one too, and no other
 abbrev pub Enumerated : Type 0
@@ -80,7 +80,7 @@ OnePlan = (t : Task) (v w : Verdict) (p q : Plan) → Planned t v p → Planned 
 -- a replay with points misses once more for each of the list's lines, within the limit or not (document 02, item 4)
 abbrev pub AddedMisses : Type 0
 AddedMisses =
-    (t : Task) → 1 ≤ t .lineCount → t .lineCount ≤ 512 → (ps : List ℕ) → wellFormed (blockCount t) ps ≡ true
+    (t : Task) → 1 ≤ lineCount t → lineCount t ≤ 512 → (ps : List ℕ) → wellFormed (blockCount t) ps ≡ true
     → missesWith t ps ≡ missesAlone t + lines t ps
 
 -- the cases marked P hold of the definitions, jointly

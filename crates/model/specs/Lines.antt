@@ -6,7 +6,7 @@ use mathlib.Core.List.{List, [], _∷_, _++_}
 use lib.Dec.{eqb, leb, ltb}
 use lib.ListN.{getD, take, drop}
 use Rattle.model.specs.Sets.{Lines}
-use Rattle.model.specs.Task.{Block, Preempter, Task}
+use Rattle.model.specs.Task.{Block, Preempter, Task, lineCount, noBlock}
 use Rattle.model.specs.declared.Line.{Line}
 use Rattle.model.specs.declared.Line.the-variants.{Empty, Held}
 use Rattle.model.specs.declared.Mapping.{Mapping}
@@ -16,11 +16,11 @@ use Rattle.model.specs.declared.Next.the-variants.{Read, Never}
 
 -- memory block m bypasses the cache: it is in the scratch range (document 02, item 5)
 unfoldable pub bypasses : Task → ℕ → Bool
-bypasses t m = leb (t .scratchFirst) m && ltb m (t .scratchFirst + t .scratchCount)
+bypasses t m = let scratch = t .header .scratch in leb (scratch .first) m && ltb m (scratch .first + scratch .count)
 
 -- the line of memory block m, or none: the one place where a number becomes a line
 unfoldable pub lineOf : Task → ℕ → Mapping
-lineOf t m = cond (bypasses t m) Uncached (Cached (m % t .lineCount))
+lineOf t m = cond (bypasses t m) Uncached (Cached (m % lineCount t))
 
 -- a memory block that lies there lies on line c
 abbrev pub isLine : ℕ → Mapping → Bool
@@ -70,7 +70,7 @@ preempterReads (p ∷ ps) = p .reads ++ preempterReads ps
 
 -- basic block i + 1
 unfoldable pub blockAt : Task → ℕ → Block
-blockAt t i = getD (t .blocks) i (record { time = 0; reads = [] })
+blockAt t i = getD (t .blocks) i noBlock
 
 -- what line c holds after basic blocks 1 to k
 unfoldable pub stateAfter : Task → ℕ → ℕ → Line

@@ -21,7 +21,7 @@ unfoldable pub planFor : Task → List ℕ → Plan
 planFor t ps =
     record {
       blocks = blockCount t;
-      id = t .id;
+      id = t .header .id;
       count = length ps;
       lines = lines t ps;
       cost = cost t ps;

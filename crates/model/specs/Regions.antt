@@ -30,15 +30,15 @@ regionLines t a b = size (loaded t a b)
 
 -- the length of a region: its times, and one reload for each loaded line
 unfoldable pub regionLength : Task → ℕ → ℕ → ℕ
-regionLength t a b = timeAfter t a (b - a) + t .reload * regionLines t a b
+regionLength t a b = timeAfter t a (b - a) + t .header .reload * regionLines t a b
 
 -- a region is within the limit
 unfoldable pub regionFits : Task → ℕ → ℕ → Bool
-regionFits t a b = leb (regionLength t a b) (t .limit)
+regionFits t a b = leb (regionLength t a b) (t .header .limit)
 
 -- what a region costs (document 01's price): R for each loaded line
 unfoldable pub regionCost : Task → ℕ → ℕ → ℕ
-regionCost t a b = t .reload * regionLines t a b
+regionCost t a b = t .header .reload * regionLines t a b
 
 -- a list's lines: a line that two regions reload counts twice
 abbrev pub lines : Task → List ℕ → ℕ

@@ -1,8 +1,9 @@
 -- A task as document 01 has it, with no bytes: a straight line of basic blocks, the tasks that may preempt it (the document's interrupters),
 -- and the header's numbers. Assumes nothing.
 use Prim.Native.Nat.{ℕ}
-use mathlib.Core.List.{List}
+use mathlib.Core.List.{List, []}
 use lib.ListN.{length}
+use Rattle.model.specs.declared.Header.{Header}
 
 -- a basic block: its time, and the memory blocks that it reads, in order
 pub record Block : Type 0 where
@@ -14,14 +15,10 @@ pub record Preempter : Type 0 where
   pub id : ℕ
   pub reads : List ℕ
 
--- lineCount is S, limit Q, reload R; the memory blocks that bypass the cache are scratchCount numbers from scratchFirst on (document 02, item 5)
+-- of the header's numbers limit is Q and reload R; the memory blocks that bypass the cache are so many numbers from the first on (document 02,
+-- item 5)
 pub record Task : Type 0 where
-  pub id : ℕ
-  pub lineCount : ℕ
-  pub limit : ℕ
-  pub reload : ℕ
-  pub scratchFirst : ℕ
-  pub scratchCount : ℕ
+  pub header : Header
   pub blocks : List Block
   pub preempters : List Preempter
 
@@ -29,16 +26,14 @@ pub record Task : Type 0 where
 abbrev pub blockCount : Task → ℕ
 blockCount t = length (t .blocks)
 
+-- S, the number of cache lines
+abbrev pub lineCount : Task → ℕ
+lineCount t = t .header .«line_count»
+
+-- what stands for a block that a task has not
+abbrev pub noBlock : Block
+noBlock = record { time = 0; reads = [] }
+
 -- the same task with other preempters
 abbrev pub withPreempters : Task → List Preempter → Task
-withPreempters t ps =
-    record {
-      id = t .id;
-      lineCount = t .lineCount;
-      limit = t .limit;
-      reload = t .reload;
-      scratchFirst = t .scratchFirst;
-      scratchCount = t .scratchCount;
-      blocks = t .blocks;
-      preempters = ps;
-    }
+withPreempters t ps = record { header = t .header; blocks = t .blocks; preempters = ps }

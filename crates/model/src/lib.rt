@@ -1,4 +1,4 @@
-// The types that the planner's answers are made of. What they mean is in specs/.
+// The types that the planner's answers and a task's header are made of. What they mean is in specs/.
 
 // One line of the cache: it is empty or holds one memory block.
 pub enum Line {
@@ -60,4 +60,19 @@ pub struct Plan {
     pub lines: u16,
     pub cost: u64,
     pub points: [u16; 64],
+}
+
+// The memory blocks that bypass the cache: so many from the first on.
+pub struct Scratch {
+    pub first: u32,
+    pub count: u32,
+}
+
+// The numbers of a task file's header but N and M, each as wide as it stands there: S, Q, R, the task's id and the scratch range.
+pub struct Header {
+    pub line_count: u16,
+    pub limit: u32,
+    pub reload: u32,
+    pub id: u32,
+    pub scratch: Scratch,
 }

@@ -43,13 +43,13 @@ module _ (count : ℕ) (points : List ℕ) (few : count ≤ 63) (zeros : drop co
     pub lines-fit : price .lines < 65536
     lines-fit = omega (arith, lines-are, lines-most t (take count points), count-is)
 
-    pub follows : record { blocks = blockCount t; id = t .id; count = count; lines = price .lines; cost = price .cost; points = points } ≡ planFor t (take count points)
+    pub follows : record { blocks = blockCount t; id = t .header .id; count = count; lines = price .lines; cost = price .cost; points = points } ≡ planFor t (take count points)
     unfolding planFor
     follows =
         λ i.
         record {
           blocks = blockCount t;
-          id = t .id;
+          id = t .header .id;
           count = sym count-is i;
           lines = lines-are i;
           cost = cost-is i;
@@ -81,7 +81,7 @@ module _ (t : Task) (table : List ℕ) (r : Placement) (holds : Holds table (blo
     pub list-lines-fit : price .lines < 65536
     list-lines-fit = lines-fit (r .count) (r .points) (omega (arith, placed .fewer)) (placed .beyond) t list-accepted price prices
 
-    pub list-planned : Planned t Accepted (record { blocks = blockCount t; id = t .id; count = r .count; lines = price .lines; cost = price .cost; points = r .points })
+    pub list-planned : Planned t Accepted (record { blocks = blockCount t; id = t .header .id; count = r .count; lines = price .lines; cost = price .cost; points = r .points })
     list-planned =
         record {
           answers = inl refl;

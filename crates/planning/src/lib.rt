@@ -40,15 +40,15 @@ pub fn price_points(file: &[u8], first: Plan) -> FilePlan
 // The plan of the first points, with their price; N and id are the file's.
 fn plan_of(file: &[u8], count: usize, points: [u16; 64], price: Price) -> Plan
     requires { ⌜ IsAccepted (now file) × (count ≤ 63) × (price .lines < 65536) ⌝ }
-    ensures { λ r. ⌜ r ≡ record { blocks = blockCount (taskOf (now (file .entry))); id = taskOf (now (file .entry)) .id; count = count; lines = price .lines; cost = price .cost; points = points } ⌝ }
+    ensures { λ r. ⌜ r ≡ record { blocks = blockCount (taskOf (now (file .entry))); id = taskOf (now (file .entry)) .header .id; count = count; lines = price .lines; cost = price .cost; points = points } ⌝ }
 {
     let blocks = taskfile::block_count(file) as u16;
-    let id = taskfile::id(file);
+    let header = taskfile::header(file);
     let count = count as u16;
     let lines = price.lines as u16;
     Plan {
         blocks,
-        id,
+        id: header.id,
         count,
         lines,
         cost: price.cost,

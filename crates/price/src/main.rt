@@ -10,7 +10,7 @@ fn print_answer(file: &[u8], points: &[u16; 64], count: usize) {
     match verdict {
         Verdict::Accepted => report::print_list(
             file,
-            taskfile::id(file),
+            taskfile::header(file).id,
             taskfile::block_count(file),
             listed,
             price.lines,

@@ -110,7 +110,7 @@ fn longer(file: &[u8], sets: &[u64; 1048], run: Run) -> Run
     let lines = run.lines
         .union(edgesets::lines_at(sets, reuse::ACCESSED + next));
     let before = run.time;
-    let time = before + taskfile::time(file, to) as u64;
+    let time = before + taskfile::time(file, next) as u64;
     Run {
         from: run.from,
         to: next,
@@ -127,13 +127,14 @@ fn region_of(file: &[u8], run: Run) -> MeasuredRegion
 {
     let loaded = run.lost.common(run.lines);
     let lines = loaded.size();
-    let cost = taskfile::reload(file) as u64 * lines as u64;
+    let header = taskfile::header(file);
+    let cost = header.reload as u64 * lines as u64;
     let length = run.time + cost;
     MeasuredRegion {
         loaded,
         lines,
         length,
         cost,
-        fits: length <= taskfile::limit(file) as u64,
+        fits: length <= header.limit as u64,
     }
 }

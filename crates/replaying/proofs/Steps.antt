@@ -14,7 +14,7 @@ use lib.ListN.{length, getD, set, drop, replicate, length-set, getD-replicate, L
 use lib.Seq.{drop-cons, drop-length, getD-drop, getD-set-same, getD-set-other}
 use borrow.Author.Tests.{eq-eqb, ne-eqb, eqb-true, eqb-false, ltb-true, lt-ltb, le-leb, lt-leb}
 use Rattle.model.specs.Sets.{Lines, listed, bit}
-use Rattle.model.specs.Task.{Task, blockCount}
+use Rattle.model.specs.Task.{Task, blockCount, noBlock}
 use Rattle.model.specs.Lines.{lineOf, sameBlock, blockAt, evicted}
 use Rattle.model.specs.Lists.{steps, every, rightPoint}
 use Rattle.model.specs.Replay.{Cache, emptyCache, miss, fetch, misses, after, emptied, atEdge, walk, missesAlone, missesWith}
@@ -51,7 +51,7 @@ rest-none t ps s s′ k n e = rw (e, zero-add) refl
 -- a block's reads
 walk-block : (t : Task) (ps : List ℕ) (s : Cache) (i : ℕ) → i < blockCount t → walk t ps s i (drop i (t .blocks)) ≡ rest t ps s (blockAt t i .reads) (suc i)
 unfolding walk blockAt
-walk-block t ps s i h = rw (drop-cons (t .blocks) i (record { time = 0; reads = [] }) h) refl
+walk-block t ps s i h = rw (drop-cons (t .blocks) i noBlock h) refl
 
 -- a read of m on no line
 read-nowhere : (t : Task) (m : ℕ) (s : Cache) → lineOf t m ≡ Uncached → fetch t s m ≡ s

@@ -12,7 +12,7 @@ use lib.Dec.{eqb, leb, ltb}
 use lib.ListN.{length, getD, set, take, replicate, length-set}
 use lib.Seq.{getD-set-same, getD-set-other, drop-nil, take-length, take-all}
 use borrow.Author.Tests.{eq-eqb, ne-eqb, le-ltb}
-use Rattle.model.specs.Task.{Task, blockCount}
+use Rattle.model.specs.Task.{Task, blockCount, lineCount}
 use Rattle.model.specs.Lines.{onLine, lastRead, firstRead, anyRead, sameBlock, blockAt, stateAfter, nextRead, useful, accessed}
 use Rattle.model.specs.declared.Line.{Line}
 use Rattle.model.specs.declared.Line.the-variants.{Empty, Held}
@@ -107,7 +107,7 @@ walked-none t held since sets h s e z zeros =
 
 -- after the last read the toggles are those of the useful lines
 pub walked-all : (t : Task) (p : ℕ) (held : List Line) (since sets : List ℕ) → p ≡ length (allReads t) → blockCount t ≤ 64
-    → 1 ≤ t .lineCount → t .lineCount ≤ 512 → Walked t p held since sets → (k c : ℕ) → k ≤ blockCount t → toggledAt sets k c ≡ useful t k c
+    → 1 ≤ lineCount t → lineCount t ≤ 512 → Walked t p held since sets → (k c : ℕ) → k ≤ blockCount t → toggledAt sets k c ≡ useful t k c
 unfolding useful stateAfter nextRead
 walked-all t p held since sets e n least most w k c h =
     by-cases (decLt c 512)

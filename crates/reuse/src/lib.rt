@@ -9,7 +9,7 @@ ghost use Rattle.model.specs.Task.{blockCount};
 ghost use Rattle.model.specs.Lines.{isLine, onLine, firstRead, lookedAt, anyRead, sameBlock, stateAfter, nextRead, readsLookedAt, asNext, evicted};
 ghost use Rattle.model.specs.Lines as Lines;
 ghost use Rattle.lineset.specs.Members.{members};
-ghost use Rattle.taskfile.specs.File.{IsAccepted, header, taskOf, entryReads};
+ghost use Rattle.taskfile.specs.File.{IsAccepted, counts, taskOf, entryReads};
 ghost use Rattle.cacheline.specs.Geometries.{GeometryOf, WithinCache};
 ghost use Rattle.edgesets.specs.Edges.{linesAt, toggledAt};
 ghost use Rattle.reuse.specs.Ready.{Ready, Collected};
@@ -75,7 +75,7 @@ fn search_from(file: &[u8], cache: Geometry, k: usize, c: usize) -> Search
 
 // The first read of line c in block k of the file.
 fn search_block(file: &[u8], cache: Geometry, k: usize, c: usize) -> Search
-    requires { ⌜ IsAccepted (now file) × (1 ≤ k) × (k ≤ header (now file) .blocks + header (now file) .preempters) ⌝ }
+    requires { ⌜ IsAccepted (now file) × (1 ≤ k) × (k ≤ counts (now file) .blocks + counts (now file) .preempters) ⌝ }
     requires { ⌜ GeometryOf (taskOf (now file)) cache ⌝ }
     ensures { λ r. ⌜ r .next ≡ asNext (firstRead (onLine (taskOf (now (file .entry))) c) (entryReads (now (file .entry)) k)) ⌝ }
     ensures { λ r. ⌜ (r .looked ≡ lookedAt (onLine (taskOf (now (file .entry))) c) (entryReads (now (file .entry)) k)) × (r .looked ≤ 124) ⌝ }
@@ -106,7 +106,7 @@ pub fn useful_lines(file: &[u8], k: usize) -> LineSet
     ensures { λ r. ⌜ ((c : ℕ) → members r c ≡ Lines.useful (taskOf (now (file .entry))) k c) ⌝ }
 {
     let cache = cacheline::geometry_of(file);
-    let count = cache.count as usize;
+    let count = cache.line_count as usize;
     let held = held_after(file, cache, k);
     let mut lines = LineSet::empty();
     let mut c = 0;
@@ -176,7 +176,7 @@ fn evicted_lines(file: &[u8]) -> LineSet
     let cache = cacheline::geometry_of(file);
     let mut marks = [false; 512];
     mark_evicted(&mut marks, file, cache);
-    marked_lines(&marks, cache.count as usize)
+    marked_lines(&marks, cache.line_count as usize)
 }
 
 // Marks the lines of H; the array is lent with no mark.
@@ -197,7 +197,7 @@ pub fn mark_evicted(marks: &mut [bool; 512], file: &[u8], cache: Geometry)
 // Marks the lines that block k of the file reads.
 fn mark_reads(marks: &mut [bool; 512], file: &[u8], cache: Geometry, k: usize)
     requires { ⌜ length (now marks) ≡ 512 ⌝ }
-    requires { ⌜ IsAccepted (now file) × (1 ≤ k) × (k ≤ header (now file) .blocks + header (now file) .preempters) ⌝ }
+    requires { ⌜ IsAccepted (now file) × (1 ≤ k) × (k ≤ counts (now file) .blocks + counts (now file) .preempters) ⌝ }
     requires { ⌜ GeometryOf (taskOf (now file)) cache ⌝ }
     ensures { λ _. ⌜ length (now (marks .exit)) ≡ 512 ⌝ }
     ensures { λ _. ⌜ ((d : ℕ) → d < 512 → getD (now (marks .exit)) d false ≡ (getD (now (marks .entry)) d false || anyRead (onLine (taskOf (now (file .entry))) d) (entryReads (now (file .entry)) k))) ⌝ }

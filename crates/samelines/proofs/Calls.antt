@@ -33,7 +33,7 @@ module _ (t u : Task) (a : SeenAlike t u) where
 
   plan-for-alike : (ps : List ℕ) → planFor t ps ≡ planFor u ps
   unfolding planFor
-  plan-for-alike ps = rw (a .region-lines, a .region-cost, a .count, a .id)
+  plan-for-alike ps = rw (a .region-lines, a .region-cost, a .count, a .header)
 
   first-alike : (ps : List ℕ) → FirstBest t ps → FirstBest u ps
   first-alike ps b = rw (a .count, a .region-fits, a .region-cost) at b

@@ -4,13 +4,13 @@ use Prim.Native.Nat.{ℕ, zero, suc, _+_, _*_, _/_, _%_, _<_, _≤_}
 use mathlib.Core.Path.{_≡_, refl, sym, ap}
 use mathlib.Core.Bool.{Bool, true, false, cond, _&&_, and-eq-true-iff}
 use mathlib.Core.List.{List, [], _++_, append-nil, append-assoc}
-use native.Mathlib.Nat.{add-zero, add-suc, suc-add, add-comm, mul-comm}
+use native.Mathlib.Nat.{zero-add, add-zero, add-suc, suc-add, add-comm, mul-comm}
 use native.Mathlib.Numerals.{add-one}
 use native.Mathlib.Omega.{arith}
 use lib.Dec.{eqb, leb, ltb}
 use lib.ListN.{length, getD}
 use borrow.Author.Tests.{eqb-true, leb-true, ltb-true}
-use Rattle.model.specs.Task.{Block, Task, blockCount}
+use Rattle.model.specs.Task.{Block, Task, blockCount, lineCount}
 use Rattle.model.specs.Lines.{preempterReads, blockAt}
 use Rattle.model.specs.declared.Place.{Place}
 use Rattle.model.specs.declared.Place.the-variants.{Nowhere, At}
@@ -22,7 +22,7 @@ use Rattle.block.specs.Bytes.{field}
 use Rattle.model.specs.Lists.{lowestFrom}
 use Rattle.block.proofs.Bytes.{field-part, length-fields, getD-fields}
 use Rattle.model.proofs.Lowest.{lowest-nowhere}
-use Rattle.taskfile.specs.File.{readsIn, basicOf, preempterOf, blockIn, blocksIn, entryReads, header, collect, taskOf, sumRight, countsInRange, headerInRange, headerRight, entryRight, blockRight, lengthRight, lengthRow, checksumRow, headerRow, countRow, blockRow, verdict}
+use Rattle.taskfile.specs.File.{readsIn, basicOf, preempterOf, blockIn, blocksIn, entryReads, counts, collect, headerOf, taskOf, sumRight, countsInRange, headerInRange, headerRight, entryRight, blockRight, lengthRight, lengthRow, checksumRow, headerRow, countRow, blockRow, verdict}
 
 -- a row accepts where no place is wrong
 row-nowhere : (r : ℕ → Refusal) (p : Place) → refusedAt p r Accepted ≡ Accepted → p ≡ Nowhere
@@ -31,16 +31,16 @@ row-nowhere r (At k) e = absurd (never-both (sym e))
 
 -- an accepted file, of 1 + N + M blocks
 pub record AcceptedFile (file : List ℕ) : Type 0 where
-  pub long : length file ≡ 512 * (1 + header file .blocks + header file .preempters)
-  pub blocks-least : 1 ≤ header file .blocks
-  pub blocks-most : header file .blocks ≤ 64
-  pub preempters-most : header file .preempters ≤ 32
-  pub lines-least : 1 ≤ taskOf file .lineCount
-  pub lines-most : taskOf file .lineCount ≤ 512
-  pub checksums : (k : ℕ) → k ≤ header file .blocks + header file .preempters → sumRight file k ≡ true
+  pub long : length file ≡ 512 * (1 + counts file .blocks + counts file .preempters)
+  pub blocks-least : 1 ≤ counts file .blocks
+  pub blocks-most : counts file .blocks ≤ 64
+  pub preempters-most : counts file .preempters ≤ 32
+  pub lines-least : 1 ≤ lineCount (taskOf file)
+  pub lines-most : lineCount (taskOf file) ≤ 512
+  pub checksums : (k : ℕ) → k ≤ counts file .blocks + counts file .preempters → sumRight file k ≡ true
   pub header-right : headerRight file ≡ true
-  pub blocks-right : (k : ℕ) → 1 ≤ k → k ≤ header file .blocks + header file .preempters → blockRight file k ≡ true
-  pub count-most : (k : ℕ) → 1 ≤ k → k ≤ header file .blocks + header file .preempters → field (blockIn file k) 2 2 ≤ 124
+  pub blocks-right : (k : ℕ) → 1 ≤ k → k ≤ counts file .blocks + counts file .preempters → blockRight file k ≡ true
+  pub count-most : (k : ℕ) → 1 ≤ k → k ≤ counts file .blocks + counts file .preempters → field (blockIn file k) 2 2 ≤ 124
 
 pub counts-range : (n m s : ℕ) → countsInRange n m s ≡ true → (1 ≤ n) × (n ≤ 64) × (m ≤ 32) × (1 ≤ s) × (s ≤ 512)
 unfolding countsInRange
@@ -52,9 +52,9 @@ counts-range n m s e =
     (leb-true _ _ (d .0), leb-true _ _ (d .1), leb-true _ _ (c .1), leb-true _ _ (b .1), leb-true _ _ (a .1))
 
 pub in-range : (t : Task) → headerInRange t ≡ true
-    → (1 ≤ blockCount t) × (blockCount t ≤ 64) × (length (t .preempters) ≤ 32) × (1 ≤ t .lineCount) × (t .lineCount ≤ 512)
+    → (1 ≤ blockCount t) × (blockCount t ≤ 64) × (length (t .preempters) ≤ 32) × (1 ≤ lineCount t) × (lineCount t ≤ 512)
 unfolding headerInRange
-in-range t e = counts-range (blockCount t) (length (t .preempters)) (t .lineCount) (and-eq-true-iff (countsInRange (blockCount t) (length (t .preempters)) (t .lineCount)) _ .0 e .0)
+in-range t e = counts-range (blockCount t) (length (t .preempters)) (lineCount t) (and-eq-true-iff (countsInRange (blockCount t) (length (t .preempters)) (lineCount t)) _ .0 e .0)
 
 pub whole-blocks : (n : ℕ) → lengthRight n ≡ true → (0 < n) × (n % 512 ≡ 0)
 unfolding lengthRight
@@ -67,6 +67,19 @@ whole-blocks n e =
 pub field-in : (file : List ℕ) (k a w : ℕ) → a + w ≤ 512 → field (blockIn file k) a w ≡ field file (k * 512 + a) w
 unfolding blockIn
 field-in file k a w h = rw (mul-comm k 512) (field-part file (512 * k) 512 a w h)
+
+-- the header's numbers are those of block 0: each ends there, which is computed
+
+field-first : (file : List ℕ) (a w : ℕ) → leb (a + w) 512 ≡ true → field file a w ≡ field (blockIn file 0) a w
+field-first file a w e = sym (rw zero-add at (field-in file 0 a w (leb-true (a + w) 512 e)))
+
+pub counts-in : (file : List ℕ) → counts file ≡ counts (blockIn file 0)
+unfolding counts
+counts-in file = simp (field-first file)
+
+pub header-in : (file : List ℕ) → headerOf file ≡ headerOf (blockIn file 0)
+unfolding headerOf
+header-in file = simp (field-first file)
 
 pub length-reads : (file : List ℕ) (k : ℕ) → length (entryReads file k) ≡ field (blockIn file k) 2 2
 unfolding entryReads readsIn
@@ -90,27 +103,27 @@ getD-collect f a (suc n) zero d h = rw add-zero
 getD-collect f a (suc n) (suc i) d h = rw (add-suc, ← suc-add) (getD-collect f (suc a) n i d (omega arith))
 
 module _ (file : List ℕ) where
-  pub block-count : blockCount (taskOf file) ≡ header file .blocks
+  pub block-count : blockCount (taskOf file) ≡ counts file .blocks
   unfolding taskOf
-  block-count = length-collect (λ k. basicOf (blockIn file k)) 1 (header file .blocks)
+  block-count = length-collect (λ k. basicOf (blockIn file k)) 1 (counts file .blocks)
 
-  pub preempter-count : length (taskOf file .preempters) ≡ header file .preempters
+  pub preempter-count : length (taskOf file .preempters) ≡ counts file .preempters
   unfolding taskOf
-  preempter-count = length-collect (λ k. preempterOf (blockIn file k)) (1 + header file .blocks) (header file .preempters)
+  preempter-count = length-collect (λ k. preempterOf (blockIn file k)) (1 + counts file .blocks) (counts file .preempters)
 
-  pub block-at : (i : ℕ) → i < header file .blocks → blockAt (taskOf file) i ≡ basicOf (blockIn file (1 + i))
+  pub block-at : (i : ℕ) → i < counts file .blocks → blockAt (taskOf file) i ≡ basicOf (blockIn file (1 + i))
   unfolding taskOf blockAt
-  block-at i h = getD-collect (λ k. basicOf (blockIn file k)) 1 (header file .blocks) i _ h
+  block-at i h = getD-collect (λ k. basicOf (blockIn file k)) 1 (counts file .blocks) i _ h
 
-  pub reads-at : (i : ℕ) → i < header file .blocks → blockAt (taskOf file) i .reads ≡ entryReads file (i + 1)
+  pub reads-at : (i : ℕ) → i < counts file .blocks → blockAt (taskOf file) i .reads ≡ entryReads file (i + 1)
   unfolding entryReads basicOf
   reads-at i h = rw (add-comm i 1) (ap (λ (b : Block). b .reads) (block-at i h))
 
 pub accepted : (file : List ℕ) → verdict file ≡ Accepted → AcceptedFile file
 unfolding verdict lengthRow checksumRow headerRow countRow blockRow headerRight blockRight entryRight blocksIn
 accepted file e =
-    let n : ℕ = header file .blocks in
-    let m : ℕ = header file .preempters in
+    let n : ℕ = counts file .blocks in
+    let m : ℕ = counts file .preempters in
     let size = both-accepted (lengthRow file) _ e in
     let sums = both-accepted (checksumRow file) _ (size .1) in
     let head = both-accepted (headerRow file) _ (sums .1) in
@@ -156,9 +169,9 @@ between-suc file k (suc n) = rw (between-suc file (suc k) n, add-suc, ← suc-ad
 pub between-more : (file : List ℕ) (k n : ℕ) → readsBetween file k (n + 1) ≡ readsBetween file k n ++ entryReads file (k + n)
 between-more file k n = rw add-one (between-suc file k n)
 
-pub preempter-reads : (file : List ℕ) → preempterReads (taskOf file .preempters) ≡ readsBetween file (1 + header file .blocks) (header file .preempters)
+pub preempter-reads : (file : List ℕ) → preempterReads (taskOf file .preempters) ≡ readsBetween file (1 + counts file .blocks) (counts file .preempters)
 unfolding taskOf preempterReads collect readsBetween preempterOf entryReads
-preempter-reads file = go (1 + header file .blocks) (header file .preempters)
+preempter-reads file = go (1 + counts file .blocks) (counts file .preempters)
   where
     go : (k n : ℕ) → preempterReads (collect (λ k. preempterOf (blockIn file k)) k n) ≡ readsBetween file k n
     go k zero = refl

@@ -2,7 +2,7 @@
 -- Assumes nothing.
 use mathlib.Core.Bool.{and-eq-true-iff}
 use Prim.Native.Nat.{ℕ, zero, suc, _+_, _*_, _<_, _≤_}
-use mathlib.Core.Path.{_≡_, refl, ap}
+use mathlib.Core.Path.{_≡_, refl, sym, ap}
 use mathlib.Core.List.{List, [], _∷_, _++_, map, append-assoc}
 use native.Mathlib.Nat.{add-zero, add-suc, suc-add}
 use native.Mathlib.Omega.{arith}
@@ -17,7 +17,7 @@ use Rattle.block.proofs.Bytes.{bytes-drop, bytes-take, bytes-append, bytes-les,
 use Rattle.block.proofs.Each.{each-append, all-map}
 use Rattle.block.proofs.Packing.{packed-bytes, unpacked, unpacked-fits}
 use Rattle.block.proofs.Blocks.{block-is, sealed-bytes}
-use Rattle.taskfile.specs.File.{blockIn, header, readsIn, basicOf, preempterOf, collect, taskOf, headerNumbers, entryBytes, basicBytes, preempterBytes, namedBytes, wholeBlocks, fileOf, headerInRange, headerRight, entryRight, blockRight, EntryWithin, Within}
+use Rattle.taskfile.specs.File.{blockIn, counts, readsIn, basicOf, preempterOf, collect, headerOf, taskOf, headerNumbers, taskNumbers, entryBytes, basicBytes, preempterBytes, namedBytes, wholeBlocks, basicBlocks, preempterBlocks, fileOf, headerInRange, headerRight, entryRight, blockRight, EntryWithin, Within}
 use Rattle.taskfile.specs.Statements.{TaskThenFile, AcceptedWithin}
 use Rattle.taskfile.proofs.Accepted.{AcceptedFile, accepted, length-collect, block-count, preempter-count}
 
@@ -52,30 +52,30 @@ three-parts bs n m l =
     (take-all (512 + (512 * n + 512 * m)) bs (omega arith))
 
 module _ (file : List ℕ) (a : AcceptedFile file) where
-  pub first-block : blockIn file 0 ≡ sealed (numbered 0 (packed (headerNumbers (taskOf file))))
+  pub first-block : blockIn file 0 ≡ sealed (numbered 0 (packed (taskNumbers (taskOf file))))
   unfolding headerRight
   first-block =
-      block-is 0 (packed (headerNumbers (taskOf file))) (blockIn file 0) (a .checksums 0 (omega arith))
+      block-is 0 (packed (taskNumbers (taskOf file))) (blockIn file 0) (a .checksums 0 (omega arith))
       (and-eq-true-iff (headerInRange (taskOf file)) _ .0 (a .header-right) .1)
 
-  pub basic-block : (k : ℕ) → 1 ≤ k → k < 1 + header file .blocks → blockIn file k ≡ sealed (numbered k (basicBytes (basicOf (blockIn file k))))
+  pub basic-block : (k : ℕ) → 1 ≤ k → k < 1 + counts file .blocks → blockIn file k ≡ sealed (numbered k (basicBytes (basicOf (blockIn file k))))
   unfolding blockRight entryRight basicOf basicBytes
   basic-block k l u =
-      let right = rw (le-leb k (header file .blocks) (omega arith)) at (a .blocks-right k l (omega arith)) in
+      let right = rw (le-leb k (counts file .blocks) (omega arith)) at (a .blocks-right k l (omega arith)) in
       block-is k (basicBytes (basicOf (blockIn file k))) (blockIn file k) (a .checksums k (omega arith)) (and-eq-true-iff (leb (field (blockIn file k) 2 2) 124) _ .0 right .1)
 
-  preempter-block : (k : ℕ) → 1 + header file .blocks ≤ k → k < 1 + header file .blocks + header file .preempters
+  preempter-block : (k : ℕ) → 1 + counts file .blocks ≤ k → k < 1 + counts file .blocks + counts file .preempters
       → blockIn file k ≡ sealed (numbered k (preempterBytes (preempterOf (blockIn file k))))
   unfolding blockRight entryRight preempterOf preempterBytes
   preempter-block k l u =
-      let right = rw (lt-leb k (header file .blocks) (omega arith)) at (a .blocks-right k (omega arith) (omega arith)) in
+      let right = rw (lt-leb k (counts file .blocks) (omega arith)) at (a .blocks-right k (omega arith) (omega arith)) in
       block-is k (preempterBytes (preempterOf (blockIn file k))) (blockIn file k) (a .checksums k (omega arith)) (and-eq-true-iff (leb (field (blockIn file k) 2 2) 124) _ .0 right .1)
 
   file-of-task : fileOf (taskOf file) ≡ file
   unfolding fileOf namedBytes wholeBlocks taskOf blockIn
   file-of-task =
-      let n = header file .blocks in
-      let m = header file .preempters in
+      let n = counts file .blocks in
+      let m = counts file .preempters in
       let basic : ℕ → List ℕ = λ k. basicBytes (basicOf (blockIn file k)) in
       let preempter : ℕ → List ℕ = λ k. preempterBytes (preempterOf (blockIn file k)) in
       rw (
@@ -88,6 +88,19 @@ module _ (file : List ℕ) (a : AcceptedFile file) where
         whole-in file preempter (1 + n) m preempter-block,
       )
       (three-parts file n m (a .long))
+
+module _ (file : List ℕ) (a : AcceptedFile file) where
+  -- the parts of the file behind its header
+  pub basic-part : (w : ℕ) → w ≡ 512 * counts file .blocks → take w (drop 512 file) ≡ basicBlocks (taskOf file)
+  unfolding basicBlocks taskOf
+  basic-part w ew = rw (ew, map-collect) (sym (whole-in file (λ k. basicBytes (basicOf (blockIn file k))) 1 (counts file .blocks) (basic-block file a)))
+
+  pub preempter-part : (s w : ℕ) → s ≡ 512 * (1 + counts file .blocks) → w ≡ 512 * counts file .preempters
+      → take w (drop s file) ≡ preempterBlocks (taskOf file)
+  unfolding preempterBlocks taskOf
+  preempter-part s w es ew =
+      rw (es, ew, map-collect, length-collect)
+      (sym (whole-in file (λ k. preempterBytes (preempterOf (blockIn file k))) (1 + counts file .blocks) (counts file .preempters) (preempter-block file a)))
 
 pub task-then-file : TaskThenFile
 task-then-file file e = file-of-task file (accepted file e)
@@ -107,7 +120,7 @@ file-bytes : (t : Task) → AllBytes (fileOf t)
 unfolding fileOf namedBytes Each basicBytes preempterBytes
 file-bytes t =
     whole-bytes 0 (namedBytes t) (
-      packed-bytes (headerNumbers t),
+      packed-bytes (taskNumbers t),
       each-append AllBytes (map basicBytes (t .blocks)) (map preempterBytes (t .preempters))
           (all-map AllBytes basicBytes (λ b. entry-all 2 0 (b .time) (b .reads)) (t .blocks))
           (all-map AllBytes preempterBytes (λ p. entry-all 3 0 (p .id) (p .reads)) (t .preempters)),
@@ -138,11 +151,11 @@ module _ (file : List ℕ) (a : AcceptedFile file) where
   bytes-in k = bytes-take 512 (drop (512 * k) file) (bytes-drop (512 * k) file bytes)
 
   -- the header's numbers are those that stand there
-  header-fits : Each InWidth (headerNumbers (taskOf file))
-  unfolding headerNumbers taskOf header unpacked Each
+  header-fits : Each InWidth (taskNumbers (taskOf file))
+  unfolding headerNumbers headerOf taskOf counts unpacked Each
   header-fits =
       rw (block-count file, preempter-count file)
-      (omega arith, (omega arith, unpacked-fits file 2 (map (λ s. s .0) (drop 2 (headerNumbers (taskOf file)))) bytes))
+      (omega arith, (omega arith, unpacked-fits file 2 (map (λ s. s .0) (drop 2 (taskNumbers (taskOf file)))) bytes))
 
   within : Within (taskOf file)
   unfolding headerRight taskOf basicOf preempterOf
@@ -150,9 +163,9 @@ module _ (file : List ℕ) (a : AcceptedFile file) where
       record {
         in-range = and-eq-true-iff (headerInRange (taskOf file)) _ .0 (a .header-right) .0;
         numbers = header-fits;
-        blocks = collect-each (λ b. EntryWithin (b .time) (b .reads)) (λ k. basicOf (blockIn file k)) 1 (header file .blocks)
+        blocks = collect-each (λ b. EntryWithin (b .time) (b .reads)) (λ k. basicOf (blockIn file k)) 1 (counts file .blocks)
             (λ k l u. entry-within (blockIn file k) (bytes-in k) (a .count-most k l (omega arith)));
-        preempters = collect-each (λ p. EntryWithin (p .id) (p .reads)) (λ k. preempterOf (blockIn file k)) (1 + header file .blocks) (header file .preempters)
+        preempters = collect-each (λ p. EntryWithin (p .id) (p .reads)) (λ k. preempterOf (blockIn file k)) (1 + counts file .blocks) (counts file .preempters)
             (λ k l u. entry-within (blockIn file k) (bytes-in k) (a .count-most k (omega arith) (omega arith)));
       }
 

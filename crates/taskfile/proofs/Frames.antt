@@ -14,7 +14,7 @@ use Rattle.block.proofs.Bytes.{length-part, length-fields, les-fields, part-tak
 use Rattle.block.proofs.Packing.{total, unpacked}
 use Rattle.model.proofs.Lowest.{scan-next}
 use Rattle.block.proofs.Blocks.{framed-read}
-use Rattle.taskfile.specs.File.{headerNumbers, entryBytes, readsIn, blockIn, header, taskOf}
+use Rattle.taskfile.specs.File.{headerNumbers, taskNumbers, entryBytes, readsIn, blockIn, counts, headerOf, taskOf}
 use Rattle.taskfile.proofs.Accepted.{block-count, preempter-count}
 
 pub length-in : (file : List ℕ) (k : ℕ) → k * 512 + 512 ≤ length file → length (blockIn file k) ≡ 512
@@ -23,14 +23,14 @@ length-in file k h = length-part (512 * k) 512 file (omega arith)
 
 -- where the header's named bytes end
 abbrev pub headerEnd : Task → ℕ
-headerEnd t = total (map (λ s. s .0) (headerNumbers t))
+headerEnd t = total (map (λ s. s .0) (taskNumbers t))
 
 -- the header's numbers are what stands in the header after its kind and byte 1
 pub header-bytes : (file : List ℕ) → AllBytes file → 512 ≤ length file
-    → packed (headerNumbers (taskOf file)) ≡ framed 1 0 (headerEnd (taskOf file)) (blockIn file 0)
-unfolding headerNumbers taskOf header unpacked total framed blockIn
+    → packed (taskNumbers (taskOf file)) ≡ framed 1 0 (headerEnd (taskOf file)) (blockIn file 0)
+unfolding headerNumbers headerOf taskOf counts unpacked total framed blockIn
 header-bytes file b h =
-    let ws : List ℕ = map (λ s. s .0) (drop 2 (headerNumbers (taskOf file))) in
+    let ws : List ℕ = map (λ s. s .0) (drop 2 (taskNumbers (taskOf file))) in
     rw (block-count file, preempter-count file, part-take 2 (total ws) 512 file (omega arith))
     (sym (append-nil _) ∙ framed-read 1 0 0 ws file b (omega arith))
 

@@ -15,7 +15,7 @@ use Rattle.model.specs.declared.Verdict.the-variants.{Accepted, Refused}
 use Rattle.model.proofs.Places.{then-most, at-most}
 use Rattle.model.specs.Lists.{lowestFrom}
 use Rattle.model.proofs.Lowest.{lowest-within}
-use Rattle.taskfile.specs.File.{blocksIn, header, sumRight, headerRight, blockRight, lengthRight, lengthRow, checksumRow, headerRow, countRow, blockRow, verdict}
+use Rattle.taskfile.specs.File.{blocksIn, counts, sumRight, headerRight, blockRight, lengthRight, lengthRow, checksumRow, headerRow, countRow, blockRow, verdict}
 use Rattle.model.proofs.Verdicts.{row-holds}
 
 blocks-most : (file : List ℕ) → lengthRow file ≡ Accepted → blocksIn file ≤ 97
@@ -33,8 +33,8 @@ pub verdict-most : (file : List ℕ) → verdictPlace (verdict file) ≤ 97
 unfolding verdict lengthRow checksumRow headerRow countRow blockRow
 verdict-most file =
     let total : ℕ = blocksIn file in
-    let n : ℕ = header file .blocks in
-    let m : ℕ = header file .preempters in
+    let n : ℕ = counts file .blocks in
+    let m : ℕ = counts file .preempters in
     then-most (lengthRow file) _ 97 (row-most (lengthRight (length file)) Length (omega arith))
     (λ e. then-most (checksumRow file) _ 97
     (at-most (lowestFrom (sumRight file) 0 total) Checksum Accepted 97 (λ k f. omega (arith, blocks-most file e, lowest-within (sumRight file) 0 total k f)) (omega arith))

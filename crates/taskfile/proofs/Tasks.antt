@@ -11,7 +11,7 @@ use native.Mathlib.Omega.{arith}
 use lib.ListN.{length, getD, take, drop, length-append, length-map, List·getD-append, List·getD-map}
 use lib.Seq.{take-at, drop-at, drop-drop, drop-append-add, getD-append-add, ext-getD}
 use borrow.Author.Tests.{le-leb, lt-leb, lt-ltb, eq-eqb}
-use Rattle.model.specs.Task.{Block, Preempter, Task, blockCount}
+use Rattle.model.specs.Task.{Block, Preempter, Task, blockCount, noBlock}
 use Rattle.model.specs.declared.Verdict.the-variants.{Accepted}
 use Rattle.block.specs.Bytes.{Sized, le, packed, field, Each}
 use Rattle.block.specs.Blocks.{numbered, sealed}
@@ -20,7 +20,7 @@ use Rattle.block.proofs.Each.{each-at, each-map, each-append}
 use Rattle.block.proofs.Packing.{numberAt, numbers-read}
 use Rattle.model.proofs.Lowest.{nowhere-lowest}
 use Rattle.block.proofs.Blocks.{length-numbered, length-sealed, afterNamed, sealed-named, numbers-back, list-back, checksum-sealed, body-sealed}
-use Rattle.taskfile.specs.File.{blockIn, blocksIn, header, readsIn, basicOf, preempterOf, collect, taskOf, headerNumbers, entryBytes, basicBytes, preempterBytes, namedBytes, wholeBlocks, fileOf, lengthRight, sumRight, headerRight, entryRight, blockRight, lengthRow, checksumRow, headerRow, countRow, blockRow, verdict, EntryWithin, Within}
+use Rattle.taskfile.specs.File.{blockIn, blocksIn, counts, readsIn, basicOf, preempterOf, collect, headerOf, taskOf, headerNumbers, taskNumbers, entryBytes, basicBytes, preempterBytes, namedBytes, wholeBlocks, fileOf, lengthRight, sumRight, headerRight, entryRight, blockRight, lengthRow, checksumRow, headerRow, countRow, blockRow, verdict, EntryWithin, Within}
 use Rattle.taskfile.specs.Statements.{FileThenTask}
 use Rattle.taskfile.proofs.Accepted.{in-range, length-collect, getD-collect}
 use Rattle.taskfile.proofs.Files.{whole-append}
@@ -97,9 +97,6 @@ collected f a xs d h =
     ext-getD d (collect f a (length xs)) xs (length-collect f a (length xs))
     (λ i l. let u : i < length xs = omega (arith, length-collect f a (length xs)) in getD-collect f a (length xs) i d u ∙ h i u)
 
-abbrev noBlock : Block
-noBlock = record { time = 0; reads = [] }
-
 abbrev noPreempter : Preempter
 noPreempter = record { id = 0; reads = [] }
 
@@ -124,14 +121,14 @@ module _ (t : Task) (w : Within t) where
   count-names = simp (length-append, length-map) (omega arith)
 
   -- the header, the basic blocks and the preempter blocks
-  parts : fileOf t ≡ sealed (numbered 0 (packed (headerNumbers t))) ++
+  parts : fileOf t ≡ sealed (numbered 0 (packed (taskNumbers t))) ++
       (wholeBlocks 1 (map basicBytes (t .blocks)) ++ wholeBlocks (1 + blockCount t) (map preempterBytes (t .preempters)))
   unfolding fileOf namedBytes wholeBlocks
   parts = rw (whole-append 1 (map basicBytes (t .blocks)) (map preempterBytes (t .preempters)), length-map)
 
   behind-header : drop 512 (fileOf t) ≡ wholeBlocks 1 (map basicBytes (t .blocks)) ++ wholeBlocks (1 + blockCount t) (map preempterBytes (t .preempters))
   unfolding Each namedBytes
-  behind-header = rw parts (drop-at (sealed (numbered 0 (packed (headerNumbers t)))) _ 512 (length-sealed _ (length-numbered 0 _ (roomy .0))))
+  behind-header = rw parts (drop-at (sealed (numbered 0 (packed (taskNumbers t)))) _ 512 (length-sealed _ (length-numbered 0 _ (roomy .0))))
 
   basics-long : length (wholeBlocks 1 (map basicBytes (t .blocks))) ≡ 512 * blockCount t
   basics-long = length-whole 1 (map basicBytes (t .blocks)) basics-roomy ∙ rw length-map
@@ -144,7 +141,7 @@ module _ (t : Task) (w : Within t) where
       rw (← drop-drop (512 * blockCount t) 512 (fileOf t), behind-header)
       (drop-at (wholeBlocks 1 (map basicBytes (t .blocks))) _ (512 * blockCount t) basics-long)
 
-  header-written : blockIn (fileOf t) 0 ≡ sealed (numbered 0 (packed (headerNumbers t)))
+  header-written : blockIn (fileOf t) 0 ≡ sealed (numbered 0 (packed (taskNumbers t)))
   unfolding fileOf namedBytes
   header-written = block-of 0 0 (namedBytes t) [] roomy (omega arith)
 
@@ -172,17 +169,17 @@ module _ (t : Task) (w : Within t) where
       (block-of 0 (suc (blockCount t + i)) (namedBytes t) d roomy (omega (arith, count-names)) ∙
       rw (zero-add, ← past, later, List·getD-map preempterBytes (t .preempters) i noPreempter))
 
-  numbers-written : field (fileOf t) ≡ (λ p v. numberAt 0 (headerNumbers t) p v (field (fileOf t) p v))
+  numbers-written : field (fileOf t) ≡ (λ p v. numberAt 0 (taskNumbers t) p v (field (fileOf t) p v))
   unfolding fileOf namedBytes wholeBlocks
   numbers-written =
-      let head : List ℕ = packed (headerNumbers t) in
+      let head : List ℕ = packed (taskNumbers t) in
       let rest : List ℕ = wholeBlocks 1 (map basicBytes (t .blocks) ++ map preempterBytes (t .preempters)) in
       let begins : sealed (numbered 0 head) ++ rest ≡ head ++ (afterNamed 0 head ++ rest) = rw (sealed-named 0 head) (append-assoc head (afterNamed 0 head) rest) in
-      numbers-read _ (afterNamed 0 head ++ rest) (headerNumbers t) begins (w .numbers)
+      numbers-read _ (afterNamed 0 head ++ rest) (taskNumbers t) begins (w .numbers)
 
-  header-read : header (fileOf t) ≡ record { blocks = blockCount t; preempters = length (t .preempters) }
-  unfolding header headerNumbers numberAt
-  header-read = rw numbers-written
+  counts-read : counts (fileOf t) ≡ record { blocks = blockCount t; preempters = length (t .preempters) }
+  unfolding counts headerNumbers numberAt
+  counts-read = rw numbers-written
 
   basic-within : (i : ℕ) → i < blockCount t → let b = getD (t .blocks) i noBlock in EntryWithin (b .time) (b .reads)
   basic-within i h = each-at (λ b. EntryWithin (b .time) (b .reads)) (t .blocks) i noBlock (w .blocks) h
@@ -201,7 +198,7 @@ module _ (t : Task) (w : Within t) where
       (λ i h. ap preempterOf (preempter-written i h) ∙ preempter-back (1 + blockCount t + i) (getD (t .preempters) i noPreempter) (preempter-within i h))
 
   task-of-file : taskOf (fileOf t) ≡ t
-  unfolding taskOf header headerNumbers numberAt
+  unfolding taskOf headerOf counts headerNumbers numberAt
   task-of-file = rw (numbers-written, basics-read, preempters-read)
 
   pub length-file : length (fileOf t) ≡ 512 * (1 + blockCount t + length (t .preempters))
@@ -228,13 +225,13 @@ module _ (t : Task) (w : Within t) where
 
   head-right : headerRight (fileOf t) ≡ true
   unfolding headerRight Each namedBytes
-  head-right = rw (task-of-file, header-written, w .in-range) (body-sealed 0 (packed (headerNumbers t)) (roomy .0))
+  head-right = rw (task-of-file, header-written, w .in-range) (body-sealed 0 (packed (taskNumbers t)) (roomy .0))
 
   basic-right : (i : ℕ) → i < blockCount t → blockRight (fileOf t) (1 + i) ≡ true
   unfolding blockRight basicBytes
   basic-right i h =
       let b = getD (t .blocks) i noBlock in
-      rw (basic-written i h, header-read, le-leb (1 + i) (blockCount t) (omega arith))
+      rw (basic-written i h, counts-read, le-leb (1 + i) (blockCount t) (omega arith))
       (entry-right (1 + i) 2 0 (b .time) (b .reads) (omega arith) (omega arith) (basic-within i h))
 
   preempter-right : (i : ℕ) → i < length (t .preempters) → blockRight (fileOf t) (1 + blockCount t + i) ≡ true
@@ -242,7 +239,7 @@ module _ (t : Task) (w : Within t) where
   preempter-right i h =
       let k : ℕ = 1 + blockCount t + i in
       let p = getD (t .preempters) i noPreempter in
-      rw (preempter-written i h, header-read, lt-leb k (blockCount t) (omega arith))
+      rw (preempter-written i h, counts-read, lt-leb k (blockCount t) (omega arith))
       (entry-right k 3 0 (p .id) (p .reads) (omega arith) (omega arith) (preempter-within i h))
 
   block-right : (k : ℕ) → 1 ≤ k → k < 1 + (blockCount t + length (t .preempters)) → blockRight (fileOf t) k ≡ true
@@ -261,7 +258,7 @@ module _ (t : Task) (w : Within t) where
         length-right,
         nowhere-lowest (sumRight (fileOf t)) 0 (blocksIn (fileOf t)) checksum-right,
         head-right,
-        header-read,
+        counts-read,
         eq-eqb (blocksIn (fileOf t)) (1 + blockCount t + length (t .preempters)) count-right,
         nowhere-lowest (blockRight (fileOf t)) 1 (blockCount t + length (t .preempters)) block-right,
       )

@@ -6,8 +6,10 @@ use mathlib.Core.Bool.{Bool, true, cond, _&&_}
 use mathlib.Core.List.{List, [], _∷_, _++_, map}
 use lib.Dec.{eqb, leb, ltb}
 use lib.ListN.{length, take, drop}
-use Rattle.model.specs.Task.{Block, Preempter, Task, blockCount}
+use Rattle.model.specs.Task.{Block, Preempter, Task, blockCount, lineCount}
 use Rattle.model.specs.Answers.{refusedAt, andThen}
+use Rattle.model.specs.declared.Header.{Header}
+use Rattle.model.specs.declared.Scratch.{Scratch}
 use Rattle.model.specs.declared.Refusal.the-variants.{Length, Checksum, WrongHeader, BlockCount, WrongBlock}
 use Rattle.model.specs.declared.Verdict.{Verdict}
 use Rattle.model.specs.declared.Verdict.the-variants.{Accepted, Refused}
@@ -24,12 +26,12 @@ unfoldable pub blocksIn : List ℕ → ℕ
 blocksIn file = length file / 512
 
 -- N and M, which say how many basic blocks and how many preempter blocks (the document's interrupter blocks) follow the header
-pub record Header : Type 0 where
+pub record Counts : Type 0 where
   pub blocks : ℕ
   pub preempters : ℕ
 
-unfoldable pub header : List ℕ → Header
-header file = record { blocks = field file 2 2; preempters = field file 4 2 }
+unfoldable pub counts : List ℕ → Counts
+counts file = record { blocks = field file 2 2; preempters = field file 4 2 }
 
 -- what a basic block or a preempter block reads: r memory block numbers, after their count r
 unfoldable pub readsIn : List ℕ → List ℕ
@@ -52,25 +54,41 @@ unfoldable pub collect : {A : Type 0} → (ℕ → A) → ℕ → ℕ → List A
 collect f a zero = []
 collect f a (suc n) = f a ∷ collect f (suc a) n
 
--- reading: where each of the task's numbers stands in the header, and the blocks after the header
-unfoldable pub taskOf : List ℕ → Task
-taskOf file =
+-- reading: where each of the header's numbers stands
+unfoldable pub headerOf : List ℕ → Header
+headerOf file =
     record {
-      lineCount = field file 6 2;
+      «line_count» = field file 6 2;
       limit = field file 8 4;
       reload = field file 12 4;
       id = field file 16 4;
-      scratchFirst = field file 20 4;
-      scratchCount = field file 24 4;
-      blocks = collect (λ k. basicOf (blockIn file k)) 1 (header file .blocks);
-      preempters = collect (λ k. preempterOf (blockIn file k)) (1 + header file .blocks) (header file .preempters);
+      scratch = record { first = field file 20 4; count = field file 24 4 };
     }
 
--- writing: the header's numbers from byte 0 on, each behind its width: kind 1, a zero, N, M, S, Q, R, the task's id and the scratch range
-unfoldable pub headerNumbers : Task → List Sized
-headerNumbers t =
-    (1, 1) ∷ (1, 0) ∷ (2, blockCount t) ∷ (2, length (t .preempters)) ∷ (2, t .lineCount) ∷ (4, t .limit) ∷ (4, t .reload) ∷ (4, t .id) ∷
-    (4, t .scratchFirst) ∷ (4, t .scratchCount) ∷ []
+-- and the task: the header's numbers, and the blocks after the header
+unfoldable pub taskOf : List ℕ → Task
+taskOf file =
+    record {
+      header = headerOf file;
+      blocks = collect (λ k. basicOf (blockIn file k)) 1 (counts file .blocks);
+      preempters = collect (λ k. preempterOf (blockIn file k)) (1 + counts file .blocks) (counts file .preempters);
+    }
+
+-- writing: the numbers of a header with N and M, from byte 0 on, each behind its width: kind 1, a zero, N, M, and the others in their order
+unfoldable pub headerNumbers : ℕ → ℕ → Header → List Sized
+headerNumbers n m h =
+    (1, 1) ∷ (1, 0) ∷ (2, n) ∷ (2, m) ∷
+    (2, h .«line_count») ∷
+    (4, h .limit) ∷
+    (4, h .reload) ∷
+    (4, h .id) ∷
+    (4, h .scratch .first) ∷
+    (4, h .scratch .count) ∷
+    []
+
+-- those of a task's header
+abbrev pub taskNumbers : Task → List Sized
+taskNumbers t = headerNumbers (blockCount t) (length (t .preempters)) (t .header)
 
 -- basic blocks and preempter blocks have one layout: kind, byte 1, the count of the reads, a number x (a time or an id), and the reads
 unfoldable pub entryBytes : ℕ → ℕ → ℕ → List ℕ → List ℕ
@@ -86,12 +104,20 @@ preempterBytes p = entryBytes 3 0 (p .id) (p .reads)
 
 -- the named bytes of each block of a task
 unfoldable pub namedBytes : Task → List (List ℕ)
-namedBytes t = packed (headerNumbers t) ∷ (map basicBytes (t .blocks) ++ map preempterBytes (t .preempters))
+namedBytes t = packed (taskNumbers t) ∷ (map basicBytes (t .blocks) ++ map preempterBytes (t .preempters))
 
 -- whole blocks, numbered from k, with these named bytes
 unfoldable pub wholeBlocks : ℕ → List (List ℕ) → List ℕ
 wholeBlocks k [] = []
 wholeBlocks k (named ∷ rest) = sealed (numbered k named) ++ wholeBlocks (suc k) rest
+
+-- the basic blocks of a task, in its file: they start with block 1
+unfoldable pub basicBlocks : Task → List ℕ
+basicBlocks t = wholeBlocks 1 (map basicBytes (t .blocks))
+
+-- its preempter blocks: they follow the basic blocks
+unfoldable pub preempterBlocks : Task → List ℕ
+preempterBlocks t = wholeBlocks (1 + blockCount t) (map preempterBytes (t .preempters))
 
 -- the bytes of a task
 unfoldable pub fileOf : Task → List ℕ
@@ -110,16 +136,16 @@ unfoldable pub countsInRange : ℕ → ℕ → ℕ → Bool
 countsInRange n m s = leb 1 n && leb n 64 && leb m 32 && leb 1 s && leb s 512
 
 -- the scratch range ends with the last memory block of four bytes or before: first plus count, a sum of numbers (document 02, item 5)
-unfoldable pub scratchInRange : ℕ → ℕ → Bool
-scratchInRange first count = leb (first + count) 4294967296
+unfoldable pub scratchInRange : Scratch → Bool
+scratchInRange s = leb (s .first + s .count) 4294967296
 
 -- the ranges of a task's N, M, S and scratch range; Q, R and id are free
 unfoldable pub headerInRange : Task → Bool
-headerInRange t = countsInRange (blockCount t) (length (t .preempters)) (t .lineCount) && scratchInRange (t .scratchFirst) (t .scratchCount)
+headerInRange t = countsInRange (blockCount t) (length (t .preempters)) (lineCount t) && scratchInRange (t .header .scratch)
 
 -- the header is right: N, M, S and the scratch range, and then its kind, its number and its zero bytes, since its bytes are those that its task's numbers make
 unfoldable pub headerRight : List ℕ → Bool
-headerRight file = headerInRange (taskOf file) && bodyRight 0 (packed (headerNumbers (taskOf file))) (blockIn file 0)
+headerRight file = headerInRange (taskOf file) && bodyRight 0 (packed (taskNumbers (taskOf file))) (blockIn file 0)
 
 -- a block is right as block k, of this kind and with this byte 1: r, and then its kind, its number and its zero bytes, since its bytes are
 -- those that its own numbers make
@@ -128,7 +154,7 @@ entryRight k kind byte1 bs = leb (field bs 2 2) 124 && bodyRight k (entryBytes k
 
 -- block k is right: a basic block up to N, and a preempter block after it
 unfoldable pub blockRight : List ℕ → ℕ → Bool
-blockRight file k = cond (leb k (header file .blocks)) (entryRight k 2 0 (blockIn file k)) (entryRight k 3 0 (blockIn file k))
+blockRight file k = cond (leb k (counts file .blocks)) (entryRight k 2 0 (blockIn file k)) (entryRight k 3 0 (blockIn file k))
 
 -- the rows of the table, each as if it stood alone. Refusal 1: a wrong length
 unfoldable pub lengthRow : List ℕ → Verdict
@@ -144,11 +170,11 @@ headerRow file = cond (headerRight file) Accepted (Refused WrongHeader)
 
 -- refusal 4: the file is not 1 + N + M blocks
 unfoldable pub countRow : List ℕ → Verdict
-countRow file = cond (eqb (blocksIn file) (1 + header file .blocks + header file .preempters)) Accepted (Refused BlockCount)
+countRow file = cond (eqb (blocksIn file) (1 + counts file .blocks + counts file .preempters)) Accepted (Refused BlockCount)
 
 -- refusal 5: the lowest wrong block after the header
 unfoldable pub blockRow : List ℕ → Verdict
-blockRow file = refusedAt (lowestFrom (blockRight file) 1 (header file .blocks + header file .preempters)) WrongBlock Accepted
+blockRow file = refusedAt (lowestFrom (blockRight file) 1 (counts file .blocks + counts file .preempters)) WrongBlock Accepted
 
 -- the answer to any bytes: the refusal of the first row that has one
 unfoldable pub verdict : List ℕ → Verdict
@@ -167,6 +193,6 @@ pub record EntryWithin (x : ℕ) (reads : List ℕ) : Type 0 where
 -- a task within the limits of a file
 pub record Within (t : Task) : Type 0 where
   pub in-range : headerInRange t ≡ true
-  pub numbers : Each InWidth (headerNumbers t)
+  pub numbers : Each InWidth (taskNumbers t)
   pub blocks : Each (λ b. EntryWithin (b .time) (b .reads)) (t .blocks)
   pub preempters : Each (λ p. EntryWithin (p .id) (p .reads)) (t .preempters)

@@ -1,17 +1,19 @@
 // Task files: the answer to any bytes, and the numbers of an accepted file.
 ghost use mathlib.Core.Path.{_≡_};
-ghost use Prim.Native.Nat.{_+_, _*_, _^_, _<_, _≤_};
+ghost use Prim.Native.Nat.{_+_, _-_, _*_, _^_, _<_, _≤_};
 ghost use lib.ListN.{length, getD};
 ghost use Rattle.model.specs.Answers.{andThen};
 ghost use Rattle.model.specs.Task.{blockCount};
 ghost use Rattle.model.specs.Lines.{blockAt};
-ghost use Rattle.taskfile.specs.File.{blockIn, header, entryReads, taskOf, lengthRight, countsInRange, scratchInRange, headerInRange, headerRight, entryRight, blockRight, checksumRow, headerRow, countRow, blockRow, IsAccepted, verdict};
+ghost use Rattle.taskfile.specs.File.{blockIn, counts, entryReads, headerOf, taskOf, basicBlocks, preempterBlocks, lengthRight, countsInRange, scratchInRange, headerInRange, headerRight, entryRight, blockRight, checksumRow, headerRow, countRow, blockRow, IsAccepted, verdict};
 ghost use Rattle.taskfile.specs.Steps.{fourRight, LeftToTest};
+use model::Header;
 use model::Refusal;
+use model::Scratch;
 use model::Verdict;
 
 // Where the header's named bytes end.
-const HEADER_END: usize = 28;
+pub const HEADER_END: usize = 28;
 
 // The answer to any bytes.
 pub fn check(file: &[u8]) -> Verdict
@@ -115,31 +117,49 @@ fn header_right(file: &[u8]) -> bool
     block::body_right(block_at(file, 0), 0, 1, 0, HEADER_END)
 }
 
+// The numbers of a header but N and M.
+fn read_header(file: &[u8]) -> Header
+    requires { ⌜ 512 ≤ length (now file) ⌝ }
+    ensures { λ r. ⌜ r ≡ headerOf (now (file .entry)) ⌝ }
+{
+    Header {
+        line_count: block::u16_at(file, 6),
+        limit: block::u32_at(file, 8),
+        reload: block::u32_at(file, 12),
+        id: block::u32_at(file, 16),
+        scratch: Scratch {
+            first: block::u32_at(file, 20),
+            count: block::u32_at(file, 24),
+        },
+    }
+}
+
 // Whether a header's numbers are in their ranges.
 fn header_in_range(file: &[u8]) -> bool
     requires { ⌜ 512 ≤ length (now file) ⌝ }
     ensures { λ r. ⌜ r ≡ headerInRange (taskOf (now (file .entry))) ⌝ }
 {
+    let header = read_header(file);
     if !counts_in_range(
         block::u16_at(file, 2) as u32,
         block::u16_at(file, 4) as u32,
-        block::u16_at(file, 6) as u32,
+        header.line_count as u32,
     ) {
         return false;
     }
-    scratch_in_range(block::u32_at(file, 20), block::u32_at(file, 24))
+    scratch_in_range(header.scratch)
 }
 
-// Whether a range of so many memory blocks from the first on has none of 2^32 or more.
-fn scratch_in_range(first: u32, count: u32) -> bool
-    ensures { λ r. ⌜ r ≡ scratchInRange first count ⌝ }
+// Whether a range of memory blocks has none of 2^32 or more.
+fn scratch_in_range(range: Scratch) -> bool
+    ensures { λ r. ⌜ r ≡ scratchInRange range ⌝ }
 {
-    first as u64 + count as u64 <= 4294967296
+    range.first as u64 + range.count as u64 <= 4294967296
 }
 
 // Whether N, M and S are in their ranges.
-pub fn counts_in_range(blocks: u32, preempters: u32, lines: u32) -> bool
-    ensures { λ r. ⌜ r ≡ countsInRange blocks preempters lines ⌝ }
+pub fn counts_in_range(blocks: u32, preempters: u32, line_count: u32) -> bool
+    ensures { λ r. ⌜ r ≡ countsInRange blocks preempters «line_count» ⌝ }
 {
     if blocks < 1 {
         return false;
@@ -150,10 +170,10 @@ pub fn counts_in_range(blocks: u32, preempters: u32, lines: u32) -> bool
     if preempters > 32 {
         return false;
     }
-    if lines < 1 {
+    if line_count < 1 {
         return false;
     }
-    lines <= 512
+    line_count <= 512
 }
 
 // Refuses a file that has not the blocks that its header counts, or else at its lowest wrong block.
@@ -172,7 +192,7 @@ fn check_blocks(file: &[u8]) -> Verdict
 
 // Refuses at the lowest wrong block after the header.
 fn check_entries(file: &[u8], blocks: u16, count: usize) -> Verdict
-    requires { ⌜ (blocks ≡ header (now file) .blocks) × (count ≡ header (now file) .blocks + header (now file) .preempters) ⌝ }
+    requires { ⌜ (blocks ≡ counts (now file) .blocks) × (count ≡ counts (now file) .blocks + counts (now file) .preempters) ⌝ }
     requires { ⌜ (count * 512 + 512 ≤ length (now file)) × (count < 2 ^ 32) ⌝ }
     ensures { λ r. ⌜ r ≡ blockRow (now (file .entry)) ⌝ }
 {
@@ -189,7 +209,7 @@ fn check_entries(file: &[u8], blocks: u16, count: usize) -> Verdict
 
 // Whether block k is right: the basic blocks come first.
 fn block_right(file: &[u8], blocks: u16, k: usize) -> bool
-    requires { ⌜ (blocks ≡ header (now file) .blocks) × (k * 512 + 512 ≤ length (now file)) × (k < 2 ^ 32) ⌝ }
+    requires { ⌜ (blocks ≡ counts (now file) .blocks) × (k * 512 + 512 ≤ length (now file)) × (k < 2 ^ 32) ⌝ }
     ensures { λ r. ⌜ r ≡ blockRight (now (file .entry)) k ⌝ }
 {
     let block = block_at(file, k);
@@ -228,65 +248,45 @@ pub fn preempter_count(file: &[u8]) -> usize
     block::u16_at(file, 4) as usize
 }
 
-// S, the number of cache lines.
-pub fn line_count(file: &[u8]) -> u32
+// The numbers of the header but N and M.
+pub fn header(file: &[u8]) -> Header
     requires { ⌜ IsAccepted (now file) ⌝ }
-    ensures { λ r. ⌜ (r ≡ taskOf (now (file .entry)) .lineCount) × (1 ≤ r) × (r ≤ 512) ⌝ }
+    ensures { λ r. ⌜ (r ≡ taskOf (now (file .entry)) .header) × (1 ≤ r .«line_count») × (r .«line_count» ≤ 512) ⌝ }
 {
-    block::u16_at(file, 6) as u32
+    read_header(file)
 }
 
-// Q, the limit of a region.
-pub fn limit(file: &[u8]) -> u32
+// The part of a file that is its basic blocks.
+pub fn basic_blocks(file: &[u8]) -> &[u8]
     requires { ⌜ IsAccepted (now file) ⌝ }
-    ensures { λ r. ⌜ r ≡ taskOf (now (file .entry)) .limit ⌝ }
+    ensures { λ r. ⌜ now r ≡ basicBlocks (taskOf (now (file .entry))) ⌝ }
 {
-    block::u32_at(file, 8)
+    let end = 512 + 512 * block_count(file);
+    &file[512..end]
 }
 
-// R, the ticks for one reload.
-pub fn reload(file: &[u8]) -> u32
+// The part of a file that is its preempter blocks.
+pub fn preempter_blocks(file: &[u8]) -> &[u8]
     requires { ⌜ IsAccepted (now file) ⌝ }
-    ensures { λ r. ⌜ r ≡ taskOf (now (file .entry)) .reload ⌝ }
+    ensures { λ r. ⌜ now r ≡ preempterBlocks (taskOf (now (file .entry))) ⌝ }
 {
-    block::u32_at(file, 12)
+    let start = 512 + 512 * block_count(file);
+    &file[start..]
 }
 
-// The task's id.
-pub fn id(file: &[u8]) -> u32
-    requires { ⌜ IsAccepted (now file) ⌝ }
-    ensures { λ r. ⌜ r ≡ taskOf (now (file .entry)) .id ⌝ }
-{
-    block::u32_at(file, 16)
-}
+// The functions below count the blocks of the file: block 0 is its header, and the basic blocks are blocks 1 to N.
 
-// The first memory block of the scratch range.
-pub fn scratch_first(file: &[u8]) -> u32
-    requires { ⌜ IsAccepted (now file) ⌝ }
-    ensures { λ r. ⌜ r ≡ taskOf (now (file .entry)) .scratchFirst ⌝ }
+// The time of basic block k.
+pub fn time(file: &[u8], k: usize) -> u32
+    requires { ⌜ IsAccepted (now file) × (1 ≤ k) × (k ≤ blockCount (taskOf (now file))) ⌝ }
+    ensures { λ r. ⌜ r ≡ blockAt (taskOf (now (file .entry))) (k - 1) .time ⌝ }
 {
-    block::u32_at(file, 20)
-}
-
-// How many memory blocks the scratch range has.
-pub fn scratch_count(file: &[u8]) -> u32
-    requires { ⌜ IsAccepted (now file) ⌝ }
-    ensures { λ r. ⌜ r ≡ taskOf (now (file .entry)) .scratchCount ⌝ }
-{
-    block::u32_at(file, 24)
-}
-
-// The time of basic block i + 1.
-pub fn time(file: &[u8], i: usize) -> u32
-    requires { ⌜ IsAccepted (now file) × (i < blockCount (taskOf (now file))) ⌝ }
-    ensures { λ r. ⌜ r ≡ blockAt (taskOf (now (file .entry))) i .time ⌝ }
-{
-    block::u32_at(file, (i + 1) * 512 + 4)
+    block::u32_at(file, k * 512 + 4)
 }
 
 // How many numbers block k of the file reads.
 pub fn read_count(file: &[u8], k: usize) -> usize
-    requires { ⌜ IsAccepted (now file) × (1 ≤ k) × (k ≤ header (now file) .blocks + header (now file) .preempters) ⌝ }
+    requires { ⌜ IsAccepted (now file) × (1 ≤ k) × (k ≤ counts (now file) .blocks + counts (now file) .preempters) ⌝ }
     ensures { λ r. ⌜ (r ≡ length (entryReads (now (file .entry)) k)) × (r ≤ 124) ⌝ }
 {
     block::u16_at(file, k * 512 + 2) as usize
@@ -294,7 +294,7 @@ pub fn read_count(file: &[u8], k: usize) -> usize
 
 // Number j that block k of the file reads.
 pub fn read(file: &[u8], k: usize, j: usize) -> u32
-    requires { ⌜ IsAccepted (now file) × (1 ≤ k) × (k ≤ header (now file) .blocks + header (now file) .preempters) ⌝ }
+    requires { ⌜ IsAccepted (now file) × (1 ≤ k) × (k ≤ counts (now file) .blocks + counts (now file) .preempters) ⌝ }
     requires { ⌜ j < length (entryReads (now file) k) ⌝ }
     ensures { λ r. ⌜ r ≡ getD (entryReads (now (file .entry)) k) j 0 ⌝ }
 {

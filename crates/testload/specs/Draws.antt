@@ -2,6 +2,7 @@
 use Prim.Native.Nat.{ℕ, zero, suc, _+_, _*_, _/_, _%_, _^_}
 use mathlib.Core.List.{List, [], _∷_}
 use Rattle.model.specs.Task.{Block, Preempter, Task}
+use Rattle.model.specs.declared.Header.{Header}
 
 -- the state after a draw (the document's s)
 unfoldable pub next : ℕ → ℕ
@@ -43,17 +44,15 @@ afterBlock s = afterReads (next s)
 unfoldable pub drawnPreempter : ℕ → ℕ → Preempter
 drawnPreempter i s = record { id = i; reads = drawnReads s }
 
--- the task of a seed, N, M, S, Q and R: its id is the seed, its scratch range is empty (header bytes 20 to 27 are zero), and the preempters
--- go on with the state that the basic blocks left
+-- the header of a seed, S, Q and R: the id is the seed, and the scratch range is empty (header bytes 20 to 27 are zero)
+abbrev pub drawnHeader : ℕ → ℕ → ℕ → ℕ → Header
+drawnHeader seed s q r = record { «line_count» = s; limit = q; reload = r; id = seed; scratch = record { first = 0; count = 0 } }
+
+-- the task of a seed, N, M, S, Q and R: the preempters go on with the state that the basic blocks left
 unfoldable pub drawnTask : ℕ → ℕ → ℕ → ℕ → ℕ → ℕ → Task
 drawnTask seed n m s q r =
     record {
-      id = seed;
-      lineCount = s;
-      limit = q;
-      reload = r;
-      scratchFirst = 0;
-      scratchCount = 0;
+      header = drawnHeader seed s q r;
       blocks = drawnList drawnBlock afterBlock 0 n seed;
       preempters = drawnList drawnPreempter afterReads 0 m (after afterBlock n seed);
     }

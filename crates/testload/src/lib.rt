@@ -9,9 +9,10 @@ ghost use Rattle.writer.specs.Writing.{storedReads, Written};
 ghost use Rattle.testload.specs.Draws as Draws;
 ghost use Rattle.testload.specs.Draws.{next, after, drawnList, drawnNumber, afterReads, drawnBlock, afterBlock, drawnPreempter, drawnTask};
 ghost use Rattle.testload.specs.Calls.{countsRow, generateVerdict, generated};
+use model::Header;
 use model::Refusal;
+use model::Scratch;
 use model::Verdict;
-use writer::Header;
 
 // A number that was drawn, and the state after it.
 struct Drawn {
@@ -112,29 +113,23 @@ fn put_task(
     seed: u32,
     blocks: u32,
     preempters: u32,
-    lines: u32,
+    line_count: u32,
     limit: u32,
     reload: u32,
     out: &mut [u8],
 )
-    requires { ⌜ (blocks ≤ 64) × (preempters ≤ 32) × (lines ≤ 512) ⌝ }
+    requires { ⌜ (blocks ≤ 64) × (preempters ≤ 32) × («line_count» ≤ 512) ⌝ }
     requires { ⌜ length (now out) ≡ 512 * (1 + blocks + preempters) ⌝ }
-    ensures { λ _. ⌜ now (out .exit) ≡ fileOf (drawnTask seed blocks preempters lines limit reload) ⌝ }
+    ensures { λ _. ⌜ now (out .exit) ≡ fileOf (drawnTask seed blocks preempters «line_count» limit reload) ⌝ }
 {
-    let n = blocks as u16;
-    let m = preempters as u16;
-    let s = lines as u16;
     let header = Header {
-        blocks: n,
-        preempters: m,
-        lines: s,
+        line_count: line_count as u16,
         limit,
         reload,
         id: seed,
-        scratch_first: 0,
-        scratch_count: 0,
+        scratch: Scratch { first: 0, count: 0 },
     };
-    writer::put_header(&mut out[..512], header);
+    writer::put_header(&mut out[..512], blocks as u16, preempters as u16, header);
     let basic_end = 512 + 512 * blocks as usize;
     let state = put_blocks(&mut out[512..basic_end], blocks as usize, seed);
     let count = preempters as usize;
@@ -143,10 +138,10 @@ fn put_task(
 }
 
 // Refuses N, M or S out of its range.
-fn check_counts(blocks: u32, preempters: u32, lines: u32) -> Verdict
-    ensures { λ r. ⌜ r ≡ countsRow blocks preempters lines ⌝ }
+fn check_counts(blocks: u32, preempters: u32, line_count: u32) -> Verdict
+    ensures { λ r. ⌜ r ≡ countsRow blocks preempters «line_count» ⌝ }
 {
-    if taskfile::counts_in_range(blocks, preempters, lines) {
+    if taskfile::counts_in_range(blocks, preempters, line_count) {
         Verdict::Accepted
     } else {
         Verdict::Refused(Refusal::OutOfRange)
@@ -158,19 +153,19 @@ pub fn generate(
     seed: u32,
     blocks: u32,
     preempters: u32,
-    lines: u32,
+    line_count: u32,
     limit: u32,
     reload: u32,
     out: &mut [u8],
 ) -> Verdict
-    ensures { λ r. ⌜ r ≡ generateVerdict blocks preempters lines (now (out .entry)) ⌝ }
-    ensures { λ _. ⌜ now (out .exit) ≡ generated seed blocks preempters lines limit reload (now (out .entry)) ⌝ }
+    ensures { λ r. ⌜ r ≡ generateVerdict blocks preempters «line_count» (now (out .entry)) ⌝ }
+    ensures { λ _. ⌜ now (out .exit) ≡ generated seed blocks preempters «line_count» limit reload (now (out .entry)) ⌝ }
 {
-    let counts = check_counts(blocks, preempters, lines);
+    let counts = check_counts(blocks, preempters, line_count);
     let output = writer::check_output(blocks, preempters, out.len());
     let verdict = answers::earlier(counts, output);
     match verdict {
-        Verdict::Accepted => put_task(seed, blocks, preempters, lines, limit, reload, out),
+        Verdict::Accepted => put_task(seed, blocks, preempters, line_count, limit, reload, out),
         Verdict::Refused(_) => {}
     }
     verdict

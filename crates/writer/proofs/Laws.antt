@@ -11,7 +11,7 @@ use Rattle.model.specs.Task.{Task, blockCount}
 use Rattle.block.specs.Bytes.{packed}
 use Rattle.block.specs.Blocks.{numbered, sealedBlocks}
 use Rattle.block.proofs.Sealing.{sealed-add, sealed-front}
-use Rattle.taskfile.specs.File.{headerNumbers, basicBytes, preempterBytes, namedBytes, wholeBlocks, fileOf}
+use Rattle.taskfile.specs.File.{taskNumbers, basicBytes, preempterBytes, namedBytes, wholeBlocks, fileOf}
 use Rattle.taskfile.proofs.Files.{whole-append}
 use Rattle.writer.specs.Writing.{Written}
 
@@ -72,7 +72,7 @@ parts-put n m e v w out head basic rest l lh lb ee ev ew =
 -- these three parts, and then the checksums, make the bytes of the task
 pub written-task : (t : Task) (n m e v w : ℕ) (out head basic rest new : List ℕ) → blockCount t ≡ n → length (t .preempters) ≡ m
     → length out ≡ 512 * (1 + n + m) → length head ≡ 512 → length basic ≡ 512 * n → length rest ≡ 512 * m → e ≡ 512 + 512 * n → v ≡ 512 * n → w ≡ 512 * m
-    → take 508 head ≡ numbered 0 (packed (headerNumbers t)) → Written 1 (map basicBytes (t .blocks)) basic
+    → take 508 head ≡ numbered 0 (packed (taskNumbers t)) → Written 1 (map basicBytes (t .blocks)) basic
     → Written (1 + n) (map preempterBytes (t .preempters)) rest → let all = putMid e w (putMid 512 v (head ++ drop 512 out) basic) rest in
     new ≡ sealedBlocks (1 + n + m) all ++ drop (512 * (1 + n + m)) all → new ≡ fileOf t
 unfolding namedBytes
@@ -81,9 +81,9 @@ written-task t n m e v w out head basic rest new cb cp l lh lb lr ee ev ew ph pb
     let ps : List (List ℕ) = map preempterBytes (t .preempters) in
     let long-b : length bs ≡ n = length-map (t .blocks) basicBytes ∙ cb in
     let long-p : length ps ≡ m = length-map (t .preempters) preempterBytes ∙ cp in
-    let one : Written 0 (packed (headerNumbers t) ∷ []) head = written-one 0 (packed (headerNumbers t)) head ph in
+    let one : Written 0 (packed (taskNumbers t) ∷ []) head = written-one 0 (packed (taskNumbers t)) head ph in
     let two : Written 1 (bs ++ ps) (basic ++ rest) = written-append 1 bs ps basic rest (rw long-b lb) pb (rw long-b pr) in
     written-all t (1 + n + m) (head ++ (basic ++ rest)) new (rw (length-append, long-b, long-p) (omega arith))
     (omega (arith, length-append head (basic ++ rest), length-append basic rest))
-    (written-append 0 (packed (headerNumbers t) ∷ []) (bs ++ ps) head (basic ++ rest) lh one two)
+    (written-append 0 (packed (taskNumbers t) ∷ []) (bs ++ ps) head (basic ++ rest) lh one two)
     (rw (parts-put n m e v w out head basic rest l lh lb ee ev ew) at pn)

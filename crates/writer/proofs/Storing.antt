@@ -1,4 +1,4 @@
--- What storing a header, a read and an entry leaves.
+-- What storing a read and an entry leaves.
 -- Assumes nothing.
 use Prim.Native.Nat.{ℕ, zero, suc, _+_, _*_, _^_, _<_, _≤_}
 use mathlib.Core.Path.{_≡_, refl, ap, ap₂, _∙_}
@@ -11,29 +11,8 @@ use Rattle.block.specs.Bytes.{AllBytes, le, packed, field, fields}
 use Rattle.block.specs.Blocks.{numbered}
 use Rattle.block.proofs.Bytes.{length-fields, les-fields, field-le, field-take}
 use Rattle.block.proofs.Storing.{stored-none, stored-first, stored-kept, stored-number}
-use Rattle.taskfile.specs.File.{headerNumbers, entryBytes}
-use Rattle.writer.specs.declared.Header.{Header}
-use Rattle.writer.specs.Writing.{HeaderStored, storedReads}
-
--- what `put_header` stores; each list is the block after one store more
-pub header-stored : (h : Header) (bs kind blocks preempters lines limit reload id first count new : List ℕ) → kind ≡ [] ++ le 2 1 ++ drop 2 bs
-    → blocks ≡ take 2 kind ++ le 2 (h .blocks) ++ drop 4 kind → preempters ≡ take 4 blocks ++ le 2 (h .preempters) ++ drop 6 blocks
-    → lines ≡ take 6 preempters ++ le 2 (h .lines) ++ drop 8 preempters → limit ≡ take 8 lines ++ le 4 (h .limit) ++ drop 12 lines
-    → reload ≡ take 12 limit ++ le 4 (h .reload) ++ drop 16 limit → id ≡ take 16 reload ++ le 4 (h .id) ++ drop 20 reload
-    → first ≡ take 20 id ++ le 4 (h .«scratch_first») ++ drop 24 id → count ≡ take 24 first ++ le 4 (h .«scratch_count») ++ drop 28 first
-    → take 508 new ≡ numbered 0 (take 28 count) → HeaderStored h new
-unfolding headerNumbers packed le
-header-stored h bs kind blocks preempters lines limit reload id first count new p₁ p₂ p₃ p₄ p₅ p₆ p₇ p₈ p₉ p₁₀ t e =
-    let s₁ = stored-number 2 1 (stored-none 0 bs (omega arith)) p₁ in
-    let s₂ = stored-number 2 (h .blocks) s₁ p₂ in
-    let s₃ = stored-number 2 (h .preempters) s₂ p₃ in
-    let s₄ = stored-number 2 (h .lines) s₃ p₄ in
-    let s₅ = stored-number 4 (h .limit) s₄ p₅ in
-    let s₆ = stored-number 4 (h .reload) s₅ p₆ in
-    let s₇ = stored-number 4 (h .id) s₆ p₇ in
-    let s₈ = stored-number 4 (h .«scratch_first») s₇ p₈ in
-    let s₉ = stored-number 4 (h .«scratch_count») s₈ p₉ in
-    p₁₀ ∙ ap (numbered 0) (stored-first s₉ ∙ rw (← e))
+use Rattle.taskfile.specs.File.{entryBytes}
+use Rattle.writer.specs.Writing.{storedReads}
 
 fields-snoc : (bs : List ℕ) (at w n : ℕ) → fields bs at w (suc n) ≡ fields bs at w n ++ (field bs (at + w * n) w ∷ [])
 unfolding fields

@@ -6,36 +6,16 @@ use mathlib.Core.Bool.{cond}
 use mathlib.Core.List.{List, [], _∷_}
 use lib.Dec.{eqb}
 use lib.ListN.{length, take, drop}
-use Rattle.model.specs.Task.{Task, blockCount}
 use Rattle.model.specs.declared.Refusal.the-variants.{Output}
 use Rattle.model.specs.declared.Verdict.{Verdict}
 use Rattle.model.specs.declared.Verdict.the-variants.{Accepted, Refused}
-use Rattle.block.specs.Bytes.{packed, fields}
+use Rattle.block.specs.Bytes.{fields}
 use Rattle.block.specs.Blocks.{numbered, sealedBlocks}
-use Rattle.taskfile.specs.File.{headerNumbers, wholeBlocks}
-use Rattle.writer.specs.declared.Header.{Header}
+use Rattle.taskfile.specs.File.{wholeBlocks}
 
 -- refusal 9 for a file that is written: the buffer is not 1 + N + M blocks long
 unfoldable pub outputRow : ℕ → ℕ → ℕ → Verdict
 outputRow n m length = cond (eqb length (512 * (1 + n + m))) Accepted (Refused Output)
-
--- the numbers of a task's header
-abbrev pub headerOf : Task → Header
-headerOf t =
-    record {
-      blocks = blockCount t;
-      preempters = length (t .preempters);
-      lines = t .lineCount;
-      limit = t .limit;
-      reload = t .reload;
-      id = t .id;
-      «scratch_first» = t .scratchFirst;
-      «scratch_count» = t .scratchCount;
-    }
-
--- bytes 0 to 507 are those of the header of any task that has these numbers
-abbrev pub HeaderStored : Header → List ℕ → Type 0
-HeaderStored h bs = (t : Task) → headerOf t ≡ h → take 508 bs ≡ numbered 0 (packed (headerNumbers t))
 
 -- the first n numbers that a block reads, as they stand in it
 abbrev pub storedReads : List ℕ → ℕ → List ℕ

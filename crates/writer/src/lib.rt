@@ -4,26 +4,13 @@ ghost use mathlib.Core.Path.{_≡_};
 ghost use mathlib.Core.List.{[], _∷_, _++_};
 ghost use Prim.Native.Nat.{_+_, _*_, _<_, _≤_};
 ghost use lib.ListN.{length, take};
+ghost use Rattle.block.specs.Bytes.{packed};
 ghost use Rattle.block.specs.Blocks.{numbered};
-ghost use Rattle.taskfile.specs.File.{entryBytes, basicBytes, preempterBytes};
-ghost use Rattle.writer.specs.Writing.{outputRow, HeaderStored, storedReads, Written, bodies};
+ghost use Rattle.taskfile.specs.File.{headerNumbers, entryBytes, basicBytes, preempterBytes};
+ghost use Rattle.writer.specs.Writing.{outputRow, storedReads, Written, bodies};
+use model::Header;
 use model::Refusal;
 use model::Verdict;
-
-// Where the header's named bytes end.
-const HEADER_END: usize = 28;
-
-// The numbers of a header, each as wide as it stands there.
-pub struct Header {
-    pub blocks: u16,
-    pub preempters: u16,
-    pub lines: u16,
-    pub limit: u32,
-    pub reload: u32,
-    pub id: u32,
-    pub scratch_first: u32,
-    pub scratch_count: u32,
-}
 
 // Refuses a buffer that is not as long as a file of so many blocks.
 pub fn check_output(blocks: u32, preempters: u32, length: usize) -> Verdict
@@ -36,21 +23,24 @@ pub fn check_output(blocks: u32, preempters: u32, length: usize) -> Verdict
     }
 }
 
-// Stores a header. The first two bytes are the kind, 1, and a zero.
-pub fn put_header(block: &mut [u8], header: Header)
+// Stores the header of a file with N basic blocks and M preempter blocks. The first two bytes are the kind, 1, and a zero.
+pub fn put_header(block: &mut [u8], blocks: u16, preempters: u16, header: Header)
     requires { ⌜ length (now block) ≡ 512 ⌝ }
-    ensures { λ _. ⌜ HeaderStored header (now (block .exit)) ⌝ }
+    ensures { λ _. ⌜ take 508 (now (block .exit)) ≡ numbered 0 (packed (headerNumbers blocks preempters header)) ⌝ }
 {
+    let numbers = [
+        header.limit,
+        header.reload,
+        header.id,
+        header.scratch.first,
+        header.scratch.count,
+    ];
     block::put_u16(block, 0, 1);
-    block::put_u16(block, 2, header.blocks);
-    block::put_u16(block, 4, header.preempters);
-    block::put_u16(block, 6, header.lines);
-    block::put_u32(block, 8, header.limit);
-    block::put_u32(block, 12, header.reload);
-    block::put_u32(block, 16, header.id);
-    block::put_u32(block, 20, header.scratch_first);
-    block::put_u32(block, 24, header.scratch_count);
-    block::close_body(block, HEADER_END, 0);
+    block::put_u16(block, 2, blocks);
+    block::put_u16(block, 4, preempters);
+    block::put_u16(block, 6, header.line_count);
+    block::put_u32s(block, 8, &numbers);
+    block::close_body(block, taskfile::HEADER_END, 0);
 }
 
 // Stores number j that a basic block or a preempter block reads, behind those before it.

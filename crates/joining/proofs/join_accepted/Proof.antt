@@ -9,7 +9,7 @@ use Rattle.model.specs.Task.{blockCount}
 use Rattle.taskfile.specs.File.{taskOf}
 use Rattle.writer.specs.Writing.{outputRow}
 use Rattle.joining.specs.Joining.{joined}
-use Rattle.joining.specs.Calls.{countsRow, joinRows}
+use Rattle.joining.specs.Calls.{totalsRow, joinRows}
 use Rattle.joining.proofs.Tasks.{count-joined, preempters-joined, counts-fit, rows-accept}
 use borrow.Author.Needs.{needs}
 use Rattle.joining.proofs.join_accepted.Statement.{statement}
@@ -45,7 +45,7 @@ decided c =
     c .earlier2 .ensures ∙
     ap₂ andThen (counts .before .check-agree .ensures)
     (c .before .earlier .ensures ∙
-    ap₂ andThen (counts .check-counts .ensures ∙ ap₂ countsRow n m) (output .check-output .ensures ∙ ap₂ (λ (x y : ℕ). outputRow x y (length (args .out .now))) n m))
+    ap₂ andThen (counts .check-totals .ensures ∙ ap₂ totalsRow n m) (output .check-output .ensures ∙ ap₂ (λ (x y : ℕ). outputRow x y (length (args .out .now))) n m))
 
 block-count-requires : tie.Need-block-count-requires
 block-count-requires c κs = search needs
@@ -68,8 +68,8 @@ add-preempters c = search needs
 check-agree-requires : tie.Need-check-agree-requires
 check-agree-requires c κs = search needs
 
-check-counts-requires : tie.Need-check-counts-requires
-check-counts-requires c κs = search needs
+check-totals-requires : tie.Need-check-totals-requires
+check-totals-requires c κs = search needs
 
 cast-check-output : tie.Need-cast-check-output
 cast-check-output c = search needs
@@ -128,7 +128,7 @@ join-accepted-spec =
     preempter-count-requires-2
     add-preempters
     check-agree-requires
-    check-counts-requires
+    check-totals-requires
     cast-check-output
     cast-check-output-2
     check-output-requires

@@ -11,8 +11,8 @@ block-count-requires c κs = search needs
 cast-blocks : tie.Need-cast-blocks
 cast-blocks c = search needs
 
-id-requires : tie.Need-id-requires
-id-requires c κs = search needs
+header-requires : tie.Need-header-requires
+header-requires c κs = search needs
 
 cast-count : tie.Need-cast-count
 cast-count c = search needs
@@ -21,8 +21,8 @@ cast-lines : tie.Need-cast-lines
 cast-lines c = search needs
 
 returns : tie.Need-returns
-returns c = rw (c .before .before .block-count .ensures .0, c .before .id .ensures) refl
+returns c = rw (c .before .before .block-count .ensures .0, c .before .header .ensures .0) refl
 
 pub plan-of-spec : {M : Type 1} → statement M
 plan-of-spec =
-    tie.close (tie.spec block-count-requires cast-blocks id-requires cast-count cast-lines returns)
+    tie.close (tie.spec block-count-requires cast-blocks header-requires cast-count cast-lines returns)

@@ -15,12 +15,12 @@ price-requires c κs = search needs
 enum-told : tie.Need-enum-told
 enum-told c = search needs
 
-id-requires : tie.Need-id-requires
+header-requires : tie.Need-header-requires
 unfolding priceVerdict
-id-requires c κs = both-accepted _ _ (sym (c .before .before .price .ensures .0) ∙ c .enum-told .given .1) .0
+header-requires c κs = both-accepted _ _ (sym (c .before .before .price .ensures .0) ∙ c .enum-told .given .1) .0
 
 block-count-requires : tie.Need-block-count-requires
-block-count-requires c κs = id-requires (c .before) κs
+block-count-requires c κs = header-requires (c .before) κs
 
 print-list-requires : tie.Need-print-list-requires
 print-list-requires c κs = search needs
@@ -44,7 +44,7 @@ print-answer-spec =
     first-requires
     price-requires
     enum-told
-    id-requires
+    header-requires
     block-count-requires
     print-list-requires
     enum-known-verdict

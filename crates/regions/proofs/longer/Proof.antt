@@ -1,7 +1,7 @@
 -- `regions::longer` meets its contract: the union and the sum of the times grow by the block after the run. At most 64 times of 32 bits fit.
 -- Assumes nothing.
-use Prim.Native.Nat.{_+_, _<_}
-use mathlib.Core.Path.{refl, sym, ap₂, _∙_}
+use Prim.Native.Nat.{_+_, _-_, _<_}
+use mathlib.Core.Path.{_≡_, refl, sym, ap₂, _∙_}
 use mathlib.Core.Bool.{_||_}
 use native.Mathlib.Omega.{arith}
 use borrow.Author.Needs.{needs}
@@ -42,7 +42,8 @@ returns c =
     let t = taskOf (start .args .file .now) in
     let run = start .args .run in
     let ready = start .pre .0 in
-    let spans = start .pre .1 in (
+    let spans = start .pre .1 in
+    let last : run .to + 1 - 1 ≡ run .to = omega arith in (
       record {
         rising = omega arith;
         within = omega arith;
@@ -52,7 +53,7 @@ returns c =
             c .before .union .ensures d ∙
             ap₂ _||_ (spans .lines d) (c .before .before .lines-at .ensures d ∙ ready .accessed (run .to + 1) d (omega arith)) ∙
             sym (union-more (run .from) (run .to) (spans .rising) (accessed t) d);
-        time = ap₂ _+_ (spans .time) (c .time .ensures) ∙ sym (time-more (run .from) (run .to) (spans .rising) t);
+        time = ap₂ _+_ (spans .time) (rw last at (c .time .ensures)) ∙ sym (time-more (run .from) (run .to) (spans .rising) t);
         small = omega arith;
       },
       refl,

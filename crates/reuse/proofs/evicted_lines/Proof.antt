@@ -31,9 +31,9 @@ returns c =
     let of = cache .ensures in
     λ d.
     c .marked-lines .ensures d ∙
-    by-cases (decLt d (cache .result .count)) (λ h. rw (lt-ltb d (cache .result .count) h) (marked .mark-evicted .ensures .1 d))
+    by-cases (decLt d (cache .result .«line_count»)) (λ h. rw (lt-ltb d (cache .result .«line_count») h) (marked .mark-evicted .ensures .1 d))
     (λ h.
-    rw (le-ltb d (cache .result .count) (omega arith))
+    rw (le-ltb d (cache .result .«line_count») (omega arith))
     (sym (evicted-beyond (taskOf file) (omega (arith, of .sound .some, of .count)) d (omega (arith, of .count)))))
 
 pub evicted-lines-spec : {M : Type 1} → statement M

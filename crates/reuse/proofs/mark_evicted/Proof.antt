@@ -9,7 +9,7 @@ use native.Mathlib.Omega.{arith}
 use lib.ListN.{length, getD, getD-replicate, List·getD-eq-default}
 use Rattle.model.specs.Lines.{onLine, anyRead, evicted}
 use Rattle.model.proofs.LineStates.{any-append, evicted-beyond}
-use Rattle.taskfile.specs.File.{header, taskOf, entryReads}
+use Rattle.taskfile.specs.File.{counts, taskOf, entryReads}
 use Rattle.taskfile.proofs.Accepted.{readsBetween, between-more, preempter-reads}
 use Rattle.taskfile.proofs.Accepted as accepted-file
 use borrow.Author.Needs.{needs}
@@ -85,8 +85,8 @@ returns c =
     let of = start .pre .2 in
     let l = c .before .loop in
     let first = c .before .before .before .block-count .result + 1 in
-    let all : l .k - first ≡ header file .preempters = omega (arith, accepted-file.preempter-count file) in
-    let from : first ≡ 1 + header file .blocks = omega (arith, accepted-file.block-count file) in (
+    let all : l .k - first ≡ counts file .preempters = omega (arith, accepted-file.preempter-count file) in
+    let from : first ≡ 1 + counts file .blocks = omega (arith, accepted-file.block-count file) in (
       l .inv .0,
       λ d.
           by-cases (decLt d 512) (λ h. l .inv .3 d h ∙ rw (all, from, ← preempter-reads file) refl)

@@ -83,7 +83,7 @@ returns c =
     let of = cache .ensures in
     λ d.
     l .inv .1 d ∙
-    by-cases (decLt d (cache .result .count)) (λ h. rw (lt-ltb d (l .c) (omega arith)) refl)
+    by-cases (decLt d (cache .result .«line_count»)) (λ h. rw (lt-ltb d (l .c) (omega arith)) refl)
     (λ h. rw (le-ltb d (l .c) (omega arith)) (sym (useful-beyond t (omega (arith, of .sound .some, of .count)) d (omega (arith, of .count)) (start .args .k))))
 
 pub useful-lines-spec : {M : Type 1} → statement M

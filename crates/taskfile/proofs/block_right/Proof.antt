@@ -4,7 +4,7 @@ use mathlib.Core.Path.{_∙_}
 use native.Mathlib.Omega.{arith}
 use borrow.Author.Needs.{needs}
 use borrow.Author.Tests.{le-leb, lt-leb}
-use Rattle.taskfile.specs.File.{header, blockRight}
+use Rattle.taskfile.specs.File.{counts, blockRight}
 use Rattle.taskfile.proofs.Frames.{length-in}
 use Rattle.taskfile.proofs.block_right.Statement.{statement}
 use Rattle.taskfile.proofs.block_right.Tie as tie
@@ -22,13 +22,13 @@ returns : tie.Need-returns
 unfolding blockRight
 returns c =
     let args = c .before .before .before .before .args in
-    c .entry-right .ensures ∙ rw (c .before .before .block-at .ensures, le-leb (args .k) (header (args .file .now) .blocks) (omega arith))
+    c .entry-right .ensures ∙ rw (c .before .before .block-at .ensures, le-leb (args .k) (counts (args .file .now) .blocks) (omega arith))
 
 returns-2 : tie.Need-returns-2
 unfolding blockRight
 returns-2 c =
     let args = c .before .before .before .before .args in
-    c .entry-right2 .ensures ∙ rw (c .before .before .block-at .ensures, lt-leb (args .k) (header (args .file .now) .blocks) (omega arith))
+    c .entry-right2 .ensures ∙ rw (c .before .before .block-at .ensures, lt-leb (args .k) (counts (args .file .now) .blocks) (omega arith))
 
 pub block-right-spec : {M : Type 1} → statement M
 block-right-spec = tie.close (tie.spec block-at-requires entry-right-requires entry-right-requires-2 returns returns-2)

@@ -5,16 +5,16 @@ use native.Mathlib.Nat.{add-assoc}
 use native.Mathlib.Omega.{arith}
 use borrow.Author.Needs.{needs}
 use borrow.Author.Tests.{eq-eqb, ne-eqb}
-use Rattle.taskfile.specs.File.{header, blocksIn, countRow}
+use Rattle.taskfile.specs.File.{counts, blocksIn, countRow}
 use Rattle.taskfile.proofs.check_blocks.Statement.{statement}
 use Rattle.taskfile.proofs.check_blocks.Tie as tie
 
 -- the header's counts
-counts : (c : tie.After-u16-at2)
-    → let h = header (c .before .before .before .args .file .now) in
+read : (c : tie.After-u16-at2)
+    → let h = counts (c .before .before .before .args .file .now) in
     (c .before .u16-at .result ≡ h .blocks) × (c .u16-at2 .result ≡ h .preempters)
-unfolding header
-counts c = (c .before .u16-at .ensures, c .u16-at2 .ensures)
+unfolding counts
+read c = (c .before .u16-at .ensures, c .u16-at2 .ensures)
 
 u16-at-requires : tie.Need-u16-at-requires
 u16-at-requires c κs = search needs
@@ -36,17 +36,17 @@ add-if1 c = search needs
 
 returns : tie.Need-returns
 unfolding blocksIn countRow
-returns c = rw (← counts (c .before) .0, ← counts (c .before) .1, add-assoc, ne-eqb _ _ (c .if1 .taken))
+returns c = rw (← read (c .before) .0, ← read (c .before) .1, add-assoc, ne-eqb _ _ (c .if1 .taken))
 
 check-entries-requires : tie.Need-check-entries-requires
 check-entries-requires c κs =
-    let are = counts (c .before) in
+    let are = read (c .before) in
     ((are .0, omega arith), (omega arith, omega arith))
 
 returns-2 : tie.Need-returns-2
 unfolding blocksIn countRow
 returns-2 c =
-    rw (← counts (c .before .before) .0, ← counts (c .before .before) .1, add-assoc, eq-eqb _ _ (c .before .if1 .left)) (c .check-entries .ensures)
+    rw (← read (c .before .before) .0, ← read (c .before .before) .1, add-assoc, eq-eqb _ _ (c .before .if1 .left)) (c .check-entries .ensures)
 
 pub check-blocks-spec : {M : Type 1} → statement M
 check-blocks-spec =

@@ -3,7 +3,7 @@
 use mathlib.Core.Path.{_≡_, sym, _∙_}
 use native.Mathlib.Omega.{arith}
 use borrow.Author.Needs.{needs}
-use Rattle.taskfile.specs.File.{header}
+use Rattle.taskfile.specs.File.{counts}
 use Rattle.taskfile.proofs.Accepted.{accepted, preempter-count}
 use Rattle.taskfile.proofs.preempter_count.Statement.{statement}
 use Rattle.taskfile.proofs.preempter_count.Tie as tie
@@ -15,10 +15,10 @@ cast-result : tie.Need-cast-result
 cast-result c = search needs
 
 returns : tie.Need-returns
-unfolding header
+unfolding counts
 returns c =
     let file = c .before .before .args .file .now in
-    let r : c .u16-at .result ≡ header file .preempters = c .u16-at .ensures in
+    let r : c .u16-at .result ≡ counts file .preempters = c .u16-at .ensures in
     let a = accepted file (c .before .before .pre) in
     (r ∙ sym (preempter-count file), omega arith)
 

@@ -6,6 +6,12 @@ use Rattle.taskfile.specs.File.{scratchInRange}
 use Rattle.taskfile.proofs.scratch_in_range.Statement.{statement}
 use Rattle.taskfile.proofs.scratch_in_range.Tie as tie
 
+cast-result : tie.Need-cast-result
+cast-result c = search needs
+
+cast-result-2 : tie.Need-cast-result-2
+cast-result-2 c = search needs
+
 add-result : tie.Need-add-result
 add-result c = search needs
 
@@ -14,4 +20,4 @@ unfolding scratchInRange
 returns c = refl
 
 pub scratch-in-range-spec : {M : Type 1} → statement M
-scratch-in-range-spec = tie.close (tie.spec add-result returns)
+scratch-in-range-spec = tie.close (tie.spec cast-result cast-result-2 add-result returns)

@@ -11,7 +11,7 @@ use Rattle.testload.proofs.generate.Tie as tie
 
 -- the verdict is the one that the contract states
 decided : (c : tie.After-earlier) → let args = c .before .before .before .before .args in
-    c .earlier .result ≡ generateVerdict (args .blocks) (args .preempters) (args .lines) (args .out .now)
+    c .earlier .result ≡ generateVerdict (args .blocks) (args .preempters) (args .line-count) (args .out .now)
 unfolding generateVerdict
 decided c = c .earlier .ensures ∙ ap₂ andThen (c .before .before .check-counts .ensures) (c .before .check-output .ensures)
 

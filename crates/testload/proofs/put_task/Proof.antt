@@ -8,24 +8,24 @@ use lib.ListN.{length, drop, length-take, length-drop}
 use borrow.Rule.Slice.PartMut.{putMid}
 use borrow.Author.Needs.{needs}
 use Rattle.testload.specs.Draws.{drawnTask}
-use Rattle.testload.proofs.Files.{header-drawn, task-put}
+use Rattle.testload.proofs.Files.{task-put}
 use Rattle.testload.proofs.put_task.Statement.{statement}
 use Rattle.testload.proofs.put_task.Tie as tie
 
-cast-n : tie.Need-cast-n
-cast-n c = search needs
-
-cast-m : tie.Need-cast-m
-cast-m c = search needs
-
-cast-s : tie.Need-cast-s
-cast-s c = search needs
+cast-put-header : tie.Need-cast-put-header
+cast-put-header c = search needs
 
 slice-relend-prefix-put-header : tie.Need-slice-relend-prefix-put-header
 slice-relend-prefix-put-header c = search needs
 
 slice-aggregate-put-header : tie.Need-slice-aggregate-put-header
 slice-aggregate-put-header c = simp length-take (omega arith)
+
+cast-put-header-2 : tie.Need-cast-put-header-2
+cast-put-header-2 c = search needs
+
+cast-put-header-3 : tie.Need-cast-put-header-3
+cast-put-header-3 c = search needs
 
 put-header-requires : tie.Need-put-header-requires
 put-header-requires c κs = simp length-take (omega arith)
@@ -84,28 +84,28 @@ returns c =
     let args = header .before .before .before .args in
     let n = args .blocks in
     let m = args .preempters in
-    let t = drawnTask (args .seed) n m (args .lines) (args .limit) (args .reload) in
+    let t = drawnTask (args .seed) n m (args .line-count) (args .limit) (args .reload) in
     let end = 512 + 512 * n in
     let first = blocks .before .before .before .out .given in
     let second = preempters .before .before .before .out2 .given in
     let third = sealed .before .before .before .out3 .given in
     let two = putMid 512 (end - 512) (header .put-header .last .0 ++ drop 512 (args .out .now)) (blocks .put-blocks .last .0) in
-    task-put (args .seed) n m (args .lines) (args .limit) (args .reload) end (end - 512) (length two - end)
+    task-put (args .seed) n m (args .line-count) (args .limit) (args .reload) end (end - 512) (length two - end)
     (blocks .put-blocks .result) (args .out .now) (header .put-header .last .0) (blocks .put-blocks .last .0) (preempters .put-preempters .last .0)
     (sealed .seal-blocks .last .0) (omega arith) (first .0 ∙ simp length-take (omega arith)) (second .0 ∙ simp (length-take, length-drop) (omega arith))
     (third .0 ∙ simp (length-take, length-drop) (omega arith)) (omega arith) (omega arith) (omega arith)
-    (header .put-header .ensures t (header-drawn (args .seed) n m (args .lines) (args .limit) (args .reload)))
+    (header .put-header .ensures)
     (blocks .put-blocks .ensures .0) (blocks .put-blocks .ensures .1) (preempters .put-preempters .ensures) (sealed .seal-blocks .ensures)
 
 pub put-task-spec : {M : Type 1} → statement M
 put-task-spec =
     tie.close
     (tie.spec
-    cast-n
-    cast-m
-    cast-s
+    cast-put-header
     slice-relend-prefix-put-header
     slice-aggregate-put-header
+    cast-put-header-2
+    cast-put-header-3
     put-header-requires
     mul-basic-end
     add-basic-end

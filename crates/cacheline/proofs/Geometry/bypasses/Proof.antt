@@ -15,13 +15,13 @@ unfolding bypasses
 returns c =
     let start = c .before .before .before in
     λ t of.
-    rw (lt-ltb (start .args .number) (t .scratchFirst + t .scratchCount) (omega (arith, of .end)), and-true (leb (t .scratchFirst) (start .args .number)), ← of .first) refl
+    rw (lt-ltb (start .args .number) (t .header .scratch .first + t .header .scratch .count) (omega (arith, of .end)), and-true (leb (t .header .scratch .first) (start .args .number)), ← of .first) refl
 
 returns-2 : tie.Need-returns-2
 unfolding bypasses
 returns-2 c =
     let start = c .before .before in
-    λ t of. rw (le-ltb (start .args .number) (t .scratchFirst + t .scratchCount) (omega (arith, of .end))) (sym (and-false (leb (t .scratchFirst) (start .args .number))))
+    λ t of. rw (le-ltb (start .args .number) (t .header .scratch .first + t .header .scratch .count) (omega (arith, of .end))) (sym (and-false (leb (t .header .scratch .first) (start .args .number))))
 
 pub bypasses-spec : {M : Type 1} → statement M
 bypasses-spec = tie.close (tie.spec returns returns-2)

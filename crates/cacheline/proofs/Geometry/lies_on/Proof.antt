@@ -6,19 +6,19 @@ use mathlib.Core.Bool.{Bool, true, false, not, cond, _&&_, and-true, and-false}
 use lib.Dec.{eqb}
 use borrow.Author.Needs.{needs}
 use borrow.Author.Tests.{eq-eqb, ne-eqb}
-use Rattle.model.specs.Task.{Task}
+use Rattle.model.specs.Task.{Task, lineCount}
 use Rattle.model.specs.Lines.{bypasses, lineOf, isLine, onLine}
 use Rattle.model.specs.declared.Mapping.the-variants.{Uncached, Cached}
 use Rattle.cacheline.proofs.Geometry.lies_on.Statement.{statement}
 use Rattle.cacheline.proofs.Geometry.lies_on.Tie as tie
 
-both-tests : (t : Task) (c m : ℕ) → onLine t c m ≡ (eqb c (m % t .lineCount) && not (bypasses t m))
+both-tests : (t : Task) (c m : ℕ) → onLine t c m ≡ (eqb c (m % lineCount t) && not (bypasses t m))
 unfolding onLine lineOf
 both-tests t c m = go (bypasses t m)
   where
-    go : (b : Bool) → isLine c (cond b Uncached (Cached (m % t .lineCount))) ≡ (eqb c (m % t .lineCount) && not b)
-    go true = sym (and-false (eqb c (m % t .lineCount)))
-    go false = sym (and-true (eqb c (m % t .lineCount)))
+    go : (b : Bool) → isLine c (cond b Uncached (Cached (m % lineCount t))) ≡ (eqb c (m % lineCount t) && not b)
+    go true = sym (and-false (eqb c (m % lineCount t)))
+    go false = sym (and-true (eqb c (m % lineCount t)))
 
 remainder-requires : tie.Need-remainder-requires
 remainder-requires c κs = search needs

@@ -2,12 +2,14 @@
 # make parts        that, the tests' library and the programs at the desk
 # make example      build the C example and hold what it prints on File Seven to its file 'expected'
 # make release      the library, its header and how to link them, in one archive
-# make test-c       unpack the release and call it from C
+# make test-c       unpack the release, call it from C, and hold the stack of each call to what LINKING.txt says
 # make test-desk    prove the programs at the desk and hold what they print to documents 01 and 02
 # make test-readme  run the examples of README.md and hold what they print to what it says
 # make opponent     compare the C calls with the independent implementation in tests/; SEED, COUNT and CASE may be given
 # make opponent-bugs  see that this comparison notices each wrong program that tests/ has
 # make bench        time the calls against plain Rust
+# make compare      OLD=DIR, a directory with an older libfirmware.a: see that its calls and today's answer alike, and time both in turns; SEED and
+#                   COUNT may be given, and WITH=probe if DIR has libprobe.a too and its calls have the arguments of today
 # make clean        remove all that was built
 
 CC := gcc
@@ -26,7 +28,7 @@ UNPACKED := target/test-c/$(NAME)
 OPPONENT := PLANNER_LIB_DIR=$(CURDIR)/target/staticlib CARGO_TARGET_DIR=$(CURDIR)/target/opponent \
 	cargo run --release --offline --locked --quiet --manifest-path tests/Cargo.toml --
 
-.PHONY: lib parts example release test-c test-desk test-readme opponent opponent-bugs bench clean
+.PHONY: lib parts example release test-c test-desk test-readme opponent opponent-bugs bench compare clean
 .DELETE_ON_ERROR:
 # Two calls of rt at once would overwrite each other's notes in target/.
 .NOTPARALLEL:
@@ -74,7 +76,9 @@ test-c: $(RELEASE).tar.gz
 	needs=$$(nm -u $(UNPACKED)/lib/libfirmware.a | sed -n 's/^ *U //p' | sort -u | xargs); \
 	grep -q "needs: $$needs$$" $(UNPACKED)/LINKING.txt || { echo "LINKING.txt does not say that the archive needs: $$needs"; exit 1; }
 	$(CC) $(CFLAGS) -DRELEASED="\"$$(cat $(UNPACKED)/VERSION)\"" -I$(UNPACKED)/include tests/c/release.c $(UNPACKED)/lib/libfirmware.a -o target/test-c/release
-	ulimit -s 128 && env -i target/test-c/release examples/firmware/seven.bin
+	target/test-c/release examples/firmware/seven.bin
+	$(CC) $(CFLAGS) -Wl,-z,now -I$(UNPACKED)/include tests/c/stack.c $(UNPACKED)/lib/libfirmware.a -o target/test-c/stack
+	target/test-c/stack "$$(sed -n 's/^ *stack: \([0-9]*\) bytes$$/\1/p' $(UNPACKED)/LINKING.txt)" examples/firmware/seven.bin
 
 test-desk: $(PROGRAMS)
 	tests/desk.sh $(DESK)
@@ -91,6 +95,17 @@ opponent-bugs: $(LIB) $(PROBE)
 bench: $(LIB) $(PROBE)
 	PLANNER_LIB_DIR=$(CURDIR)/target/staticlib CARGO_TARGET_DIR=$(CURDIR)/target/bench \
 		cargo run --release --offline --locked --quiet --manifest-path bench/Cargo.toml
+
+# The older calls are given other names, so that one program can have both.
+compare: $(LIB) $(PROBE)
+	test -d "$(OLD)" || { echo 'usage: make compare OLD=DIR'; exit 2; }
+	mkdir -p target/compare
+	for lib in firmware $(WITH); do \
+		nm -g --defined-only $(OLD)/lib$$lib.a | sed -n 's/^[0-9a-f]* [A-Z] \(.*\)/\1 old_\1/p' >target/compare/names && \
+		objcopy --redefine-syms=target/compare/names $(OLD)/lib$$lib.a target/compare/libold_$$lib.a || exit 1; \
+	done
+	PLANNER_LIB_DIR=$(CURDIR)/target/staticlib OLD_LIB_DIR=$(CURDIR)/target/compare CARGO_TARGET_DIR=$(CURDIR)/target/compare \
+		cargo run --release --offline --locked --quiet --manifest-path bench/compare/Cargo.toml --features "$(WITH)" -- $(SEED) $(COUNT)
 
 clean:
 	rm -rf target

@@ -1,8 +1,9 @@
-//! Planning and pricing written for speed in plain Rust. How the lines of a stretch are counted
-//! is left to a method: `line_sets` or `by_line`.
+//! Planning and pricing written for speed in plain Rust. How the lines of a region are counted
+//! is left to a method: `counts` or `by_line`.
 
 use crate::checks::{check_of, lowest_wrong};
 use calls::{Refusal, Returned};
+use std::hint::select_unpredictable;
 
 pub const BLOCK: usize = 512;
 pub const MOST_BASIC: usize = 64;
@@ -47,14 +48,27 @@ impl Lines {
         }
     }
 
-    pub fn of(self, m: u32) -> Option<usize> {
-        if m.wrapping_sub(self.first) < self.count {
-            return None;
-        }
+    fn bypasses(self, m: u32) -> bool {
+        m.wrapping_sub(self.first) < self.count
+    }
+
+    fn remainder(self, m: u32) -> usize {
         let part = self.reciprocal.wrapping_mul(m as u64);
-        Some(((part as u128 * self.s as u128) >> 64) as usize & 511)
+        ((part as u128 * self.s as u128) >> 64) as usize & 511
+    }
+
+    pub fn of(self, m: u32) -> Option<usize> {
+        (!self.bypasses(m)).then(|| self.remainder(m))
+    }
+
+    /// The line of m, or `NO_LINE`, without a branch.
+    pub fn or_none(self, m: u32) -> usize {
+        select_unpredictable(self.bypasses(m), NO_LINE, self.remainder(m))
     }
 }
+
+/// Stands behind the lines for the numbers that lie on none.
+pub const NO_LINE: usize = 512;
 
 pub struct Task<'a> {
     pub n: usize,
@@ -63,7 +77,7 @@ pub struct Task<'a> {
     reload: u64,
     id: u32,
     blocks: &'a [u8],
-    interrupters: &'a [u8],
+    preempters: &'a [u8],
 }
 
 impl Task<'_> {
@@ -71,12 +85,18 @@ impl Task<'_> {
         self.blocks.chunks_exact(BLOCK)
     }
 
-    pub fn interrupters(&self) -> impl Iterator<Item = &[u8]> {
-        self.interrupters.chunks_exact(BLOCK)
+    pub fn preempters(&self) -> impl Iterator<Item = &[u8]> {
+        self.preempters.chunks_exact(BLOCK)
     }
 
     fn time(&self, k: usize) -> u64 {
         get32(self.blocks, (k - 1) * BLOCK + 4) as u64
+    }
+
+    /// The length of a region that reloads so many lines.
+    pub fn length(&self, a: usize, b: usize, lines: u64) -> u64 {
+        let times: u64 = (a + 1..=b).map(|k| self.time(k)).sum();
+        times + self.reload * lines
     }
 }
 
@@ -86,14 +106,12 @@ pub fn numbers(block: &[u8]) -> impl Iterator<Item = u32> + '_ {
 }
 
 pub trait Method {
-    /// One walk over all reads.
-    fn walk(task: &Task) -> Self;
-    /// Called once before `grow`.
-    fn prepare(&mut self) {}
+    /// What planning needs of the reads.
+    fn all_regions(task: &Task) -> Self;
     /// Calls `each(b, size of loaded(a, b))` for b from a + 1 to n until it says no.
     fn grow(&self, a: usize, n: usize, each: impl FnMut(usize, u64) -> bool);
-    /// The size of loaded(a, b).
-    fn lines(&self, a: usize, b: usize) -> u64;
+    /// The sizes of loaded of the regions that end at the given edges, which rise up to N.
+    fn regions(task: &Task, ends: &[u16]) -> [u64; MOST_BASIC];
 }
 
 pub fn open(file: &[u8]) -> Result<Task<'_>, Refusal> {
@@ -134,7 +152,7 @@ pub fn open(file: &[u8]) -> Result<Task<'_>, Refusal> {
             return Err(refusal(5, i + 1));
         }
     }
-    let (blocks, interrupters) = rest.split_at(n * BLOCK);
+    let (blocks, preempters) = rest.split_at(n * BLOCK);
     Ok(Task {
         n,
         lines: Lines::new(s, scratch),
@@ -142,69 +160,103 @@ pub fn open(file: &[u8]) -> Result<Task<'_>, Refusal> {
         reload: get32(header, 12) as u64,
         id: get32(header, 16),
         blocks,
-        interrupters,
+        preempters,
     })
 }
 
-struct Points {
+/// The points of a list and then N: the ends of its regions.
+struct Ends {
     count: usize,
     list: [u16; MOST_BASIC],
 }
 
-/// From the end: the least lines after each edge and the next cut. A stretch only grows longer
-/// with its end, so the first one above Q ends the search from its start.
-fn choose<M: Method>(task: &Task, method: &M) -> Option<(Points, u64)> {
-    const NONE: u64 = u64::MAX;
-    let n = task.n;
-    let mut least = [NONE; MOST_BASIC + 1];
-    let mut next = [0u16; MOST_BASIC + 1];
-    least[n] = 0;
-    for a in (0..n).rev() {
-        let mut times = 0;
-        let mut best = NONE;
-        let mut cut = 0;
-        method.grow(a, n, |b, lines| {
-            times += task.time(b);
-            if times + task.reload * lines > task.limit {
-                return false;
-            }
-            if least[b] != NONE && lines + least[b] < best {
-                best = lines + least[b];
-                cut = b;
-            }
-            true
-        });
-        least[a] = best;
-        next[a] = cut as u16;
+impl Ends {
+    fn new() -> Ends {
+        Ends {
+            count: 0,
+            list: [0; MOST_BASIC],
+        }
     }
-    if least[0] == NONE {
-        return None;
+
+    fn push(&mut self, end: usize) {
+        self.list[self.count] = end as u16;
+        self.count += 1;
     }
-    let mut points = Points {
-        count: 0,
-        list: [0; MOST_BASIC],
-    };
-    let mut a = next[0] as usize;
-    while a < n {
-        points.list[points.count] = a as u16;
-        points.count += 1;
-        a = next[a] as usize;
+
+    fn all(&self) -> &[u16] {
+        &self.list[..self.count]
     }
-    Some((points, least[0]))
+
+    fn points(&self) -> &[u16] {
+        &self.list[..self.count - 1]
+    }
 }
 
-fn price_list<M: Method>(task: &Task, method: &M, points: &Points) -> Result<u64, Refusal> {
+/// The cheapest way from an edge to the end.
+#[derive(Clone, Copy)]
+struct Rest {
+    cost: u64,
+    lines: u64,
+    next: usize,
+}
+
+/// From the end: the cheapest rest at each edge. A region only grows longer with its end, so the first one above Q ends
+/// the search from its start. Of several ends that cost the same N comes first, and then the lowest.
+fn choose<M: Method>(task: &Task, method: &M) -> Option<(Ends, u64)> {
+    /// Above each cost, and no sum with it overflows.
+    const NONE: u64 = 1 << 62;
+    let n = task.n;
+    let mut times = [0; MOST_BASIC + 1];
+    for k in 1..=n {
+        times[k] = task.time(k);
+    }
+    let mut rests = [Rest {
+        cost: 0,
+        lines: 0,
+        next: n,
+    }; MOST_BASIC + 1];
+    for a in (0..n).rev() {
+        let mut sum = 0;
+        let mut best = Rest {
+            cost: NONE,
+            lines: 0,
+            next: 0,
+        };
+        method.grow(a, n, |b, lines| {
+            let reloads = task.reload * lines;
+            sum += times[b];
+            if sum + reloads > task.limit {
+                return false;
+            }
+            let rest = &rests[b];
+            let cost = reloads + rest.cost;
+            let better = cost < best.cost + (b == n) as u64;
+            best.cost = select_unpredictable(better, cost, best.cost);
+            best.lines = select_unpredictable(better, lines + rest.lines, best.lines);
+            best.next = select_unpredictable(better, b, best.next);
+            true
+        });
+        rests[a] = best;
+    }
+    if rests[0].cost >= NONE {
+        return None;
+    }
+    let mut ends = Ends::new();
+    let mut a = 0;
+    while a < n {
+        a = rests[a].next;
+        ends.push(a);
+    }
+    Some((ends, rests[0].lines))
+}
+
+fn price_list<M: Method>(task: &Task, ends: &Ends) -> Result<u64, Refusal> {
+    let sizes = M::regions(task, ends.all());
     let mut whole = 0;
     let mut a = 0;
-    for i in 0..=points.count {
-        let b = if i < points.count {
-            points.list[i] as usize
-        } else {
-            task.n
-        };
-        let lines = method.lines(a, b);
-        let times: u64 = (a + 1..=b).map(|k| task.time(k)).sum();
-        if times + task.reload * lines > task.limit {
+    for (i, (&b, lines)) in ends.all().iter().zip(sizes).enumerate() {
+        let b = b as usize;
+        if task.length(a, b, lines) > task.limit {
             return Err(refusal(8, i));
         }
         whole += lines;
@@ -213,25 +265,23 @@ fn price_list<M: Method>(task: &Task, method: &M, points: &Points) -> Result<u64
     Ok(whole)
 }
 
-fn store(task: &Task, points: &Points, lines: u64, block: &mut [u8]) {
+fn store(task: &Task, points: &[u16], lines: u64, block: &mut [u8]) {
     block.fill(0);
     block[0] = 4;
     block[2..4].copy_from_slice(&(task.n as u16).to_le_bytes());
-    block[4..6].copy_from_slice(&(points.count as u16).to_le_bytes());
+    block[4..6].copy_from_slice(&(points.len() as u16).to_le_bytes());
     block[6..8].copy_from_slice(&(lines as u16).to_le_bytes());
     block[8..16].copy_from_slice(&(task.reload * lines).to_le_bytes());
     block[16..20].copy_from_slice(&task.id.to_le_bytes());
-    for (place, p) in block[20..]
-        .chunks_exact_mut(2)
-        .zip(&points.list[..points.count])
-    {
+    for (place, p) in block[20..].chunks_exact_mut(2).zip(points) {
         place.copy_from_slice(&p.to_le_bytes());
     }
     let check = check_of(block);
     block[508..].copy_from_slice(&check.to_le_bytes());
 }
 
-fn read_points(block: &[u8]) -> Result<Points, Refusal> {
+/// The points of a plan block, which may be another task's.
+fn read_points(block: &[u8]) -> Result<Ends, Refusal> {
     if block.len() != BLOCK {
         return Err(refusal(1, 97));
     }
@@ -248,17 +298,14 @@ fn read_points(block: &[u8]) -> Result<Points, Refusal> {
     {
         return Err(refusal(5, 97));
     }
-    let mut points = Points {
-        count,
-        list: [0; MOST_BASIC],
-    };
+    let mut points = Ends::new();
     let mut before = 0;
-    for (i, p) in block[20..20 + 2 * count].chunks_exact(2).enumerate() {
-        let p = u16::from_le_bytes([p[0], p[1]]);
-        if p <= before || p as usize >= n {
+    for p in block[20..20 + 2 * count].chunks_exact(2) {
+        let p = get16(p, 0);
+        if p <= before || p >= n {
             return Err(refusal(5, 97));
         }
-        points.list[i] = p;
+        points.push(p);
         before = p;
     }
     Ok(points)
@@ -269,10 +316,8 @@ pub fn plan<M: Method>(file: &[u8], block: &mut [u8]) -> Returned {
         return Err(refusal(9, 0));
     }
     let task = open(file)?;
-    let mut method = M::walk(&task);
-    method.prepare();
-    let (points, lines) = choose(&task, &method).ok_or(refusal(6, 0))?;
-    store(&task, &points, lines, block);
+    let (ends, lines) = choose(&task, &M::all_regions(&task)).ok_or(refusal(6, 0))?;
+    store(&task, ends.points(), lines, block);
     Ok(())
 }
 
@@ -281,15 +326,12 @@ pub fn price<M: Method>(file: &[u8], first: &[u8], block: &mut [u8]) -> Returned
         return Err(refusal(9, 0));
     }
     let task = open(file)?;
-    let points = read_points(first)?;
-    if let Some(i) = points.list[..points.count]
-        .iter()
-        .position(|&p| p as usize >= task.n)
-    {
+    let mut ends = read_points(first)?;
+    if let Some(i) = ends.all().iter().position(|&p| p as usize >= task.n) {
         return Err(refusal(7, i));
     }
-    let method = M::walk(&task);
-    let lines = price_list(&task, &method, &points)?;
-    store(&task, &points, lines, block);
+    ends.push(task.n);
+    let lines = price_list::<M>(&task, &ends)?;
+    store(&task, ends.points(), lines, block);
     Ok(())
 }

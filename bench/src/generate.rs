@@ -36,7 +36,8 @@ fn entry(source: &mut Source, block: &mut [u8], kind: u8, word: u32, number: usi
     close(block, 8 + 4 * r, number);
 }
 
-pub fn generate(seed: u32, n: u32, m: u32, s: u32, q: u32, r: u32, out: &mut [u8]) -> Returned {
+/// The file of a seed, N, M, S, Q and R.
+pub fn generate([seed, n, m, s, q, r]: [u32; 6], out: &mut [u8]) -> Returned {
     if n < 1 || n > 64 || m > 32 || s < 1 || s > 512 {
         return Err(refusal(10, 0));
     }

@@ -12,7 +12,7 @@ fn limit(file: &[u8]) -> u32 {
     u32::from_le_bytes([file[8], file[9], file[10], file[11]])
 }
 
-/// The basic blocks and the interrupters of a file that was opened.
+/// The basic blocks and the preempters of a file that was opened.
 fn parts(file: &[u8], n: usize) -> (&[u8], &[u8]) {
     file[BLOCK..].split_at(n * BLOCK)
 }

@@ -1,366 +1,403 @@
-//! Times the planner's two calls, its search for the next read, U(k), the replay, the making of a file from a seed and the joining of two
-//! files against the same work written for speed in plain Rust, in one process and in turns. Every figure is the median of
-//! many rounds.
+//! Times the planner's calls against the same work written for speed in plain Rust, in one process and in turns, each row on several
+//! files of one shape in rotation. Every figure is the median of many rounds.
 
-mod by_line;
-mod checks;
-mod fast;
-mod files;
-mod generate;
-mod join;
-mod line_sets;
-mod replays;
-mod searches;
-
-use by_line::ByLine;
+use bench::by_line::ByLine;
+use bench::checks::lowest_wrong;
+use bench::counts::Counts;
+use bench::files::{
+    any, any_points, drawn, growing, planned, reread, rotated, seven, Again, Rng, Shape, LARGEST,
+};
+use bench::timing::{keep, medians};
+use bench::{fast, generate, join, regions, replays, searches};
 use calls::Returned;
-use checks::lowest_wrong;
-use files::{drawn, reread, seven, Again, Shape};
-use line_sets::LineSets;
 use std::hint::black_box;
-use std::time::{Duration, Instant};
 
 const ROUNDS: usize = 151;
-/// One sample lasts at least about this long.
-const SAMPLE: Duration = Duration::from_micros(400);
+/// So many random files are tried before anything is timed.
+const TRIED: u64 = 2000;
 
-/// Lets no work be left out because nobody looks at what it gives.
-fn keep<T>(value: T) {
-    let _ = black_box(value);
+fn are_alike<T: PartialEq>(answers: &[T]) -> bool {
+    answers.iter().all(|answer| *answer == answers[0])
 }
 
-fn said(returned: Returned) -> String {
-    match returned {
-        Ok(()) => "0".to_string(),
-        Err(refusal) => format!("{} at {}", refusal.number, refusal.place),
+/// Holds the answers of several programs to those of the first, which is the planner. A figure of a program that answers
+/// otherwise is worth nothing.
+fn hold_alike<T: PartialEq>(name: &str, answers: &[(Returned, T)]) {
+    let (returned, _) = &answers[0];
+    assert!(
+        *returned == Ok(()),
+        "{name}: the planner returns {returned:?}"
+    );
+    assert!(are_alike(answers), "{name}: answers differ");
+}
+
+fn blocks_of(files: &[Vec<u8>]) -> String {
+    let blocks = files[0].len() / 512;
+    match files.len() {
+        1 => format!("{blocks} blocks"),
+        count => format!("{count} files of {blocks} blocks"),
     }
 }
 
-/// Microseconds for one of `count` runs.
-fn sample(work: &mut dyn FnMut(), count: usize) -> f64 {
-    let start = Instant::now();
-    for _ in 0..count {
-        work();
+fn least_to_most(numbers: impl Iterator<Item = u64> + Clone) -> String {
+    let (least, most) = (numbers.clone().min().unwrap(), numbers.max().unwrap());
+    match least == most {
+        true => least.to_string(),
+        false => format!("{least} to {most}"),
     }
-    start.elapsed().as_secs_f64() * 1e6 / count as f64
 }
 
-/// The medians of several pieces of work, their samples taken in turns.
-fn medians<const W: usize>(mut works: [&mut dyn FnMut(); W]) -> [f64; W] {
-    let counts: Vec<usize> = works
-        .iter_mut()
-        .map(|work| {
-            sample(*work, 3);
-            let one = sample(*work, 3).max(0.01);
-            ((SAMPLE.as_secs_f64() * 1e6 / one) as usize).clamp(1, 100_000)
-        })
+/// A call's time, and that of each other program with the ratio to it.
+fn say(call: &str, ours: f64, others: &[(&str, f64)]) {
+    print!("  {call:<6} planner {ours:9.2} us");
+    for (name, time) in others {
+        print!("   {name} {time:8.2} us, ratio {:5.2}", ours / time);
+    }
+    println!();
+}
+
+/// The time for the checksums of the files, and its share of that of each program.
+fn say_checks(files: &[Vec<u8>], of: &str, times: &[(&str, f64)]) {
+    let [checks] = medians(
+        ROUNDS,
+        files.len(),
+        [&mut |i| keep(lowest_wrong(&files[i]))],
+    );
+    let shares: Vec<String> = times
+        .iter()
+        .map(|(name, time)| format!("{name} {:.0}%", 100.0 * checks / time))
         .collect();
-    let mut samples = [const { Vec::new() }; W];
-    for _ in 0..ROUNDS {
-        for w in 0..W {
-            samples[w].push(sample(works[w], counts[w]));
-        }
-    }
-    samples.map(|mut list: Vec<f64>| {
-        list.sort_by(f64::total_cmp);
-        list[list.len() / 2]
-    })
+    println!(
+        "  checksums {checks:15.2} us   share of {of}: {}",
+        shares.join(", ")
+    );
 }
 
-fn row(name: &str, file: &[u8]) {
-    let mut blocks = [[0u8; 512]; 3];
-    let [ours, sets, lines] = &mut blocks;
-    let plans = [
-        calls::plan(file, ours),
-        fast::plan::<LineSets>(file, sets),
-        fast::plan::<ByLine>(file, lines),
-    ];
-    let points = *sets;
-    let prices = [
-        calls::price(file, &points, ours),
-        fast::price::<LineSets>(file, &points, sets),
-        fast::price::<ByLine>(file, &points, lines),
-    ];
-    let same = [plans, prices].iter().all(|c| c[0] == c[1] && c[0] == c[2])
-        && ours == sets
-        && ours == lines;
-    let count = u16::from_le_bytes([points[4], points[5]]);
-    println!(
-        "{name}: {} blocks, {count} points, returns {} and {}{}",
-        file.len() / 512,
-        said(plans[0]),
-        said(prices[0]),
-        if same { "" } else { ", ANSWERS DIFFER" }
-    );
-
-    let file = || black_box(file);
-    let points = || black_box(&points);
-    let [checks] = medians([&mut || {
-        black_box(lowest_wrong(file()));
-    }]);
-    let plan = medians([
-        &mut || {
-            keep(calls::plan(file(), ours));
-        },
-        &mut || {
-            keep(fast::plan::<LineSets>(file(), sets));
-        },
-        &mut || {
-            keep(fast::plan::<ByLine>(file(), lines));
-        },
-    ]);
-    let price = medians([
-        &mut || {
-            keep(calls::price(file(), points(), ours));
-        },
-        &mut || {
-            keep(fast::price::<LineSets>(file(), points(), sets));
-        },
-        &mut || {
-            keep(fast::price::<ByLine>(file(), points(), lines));
-        },
-    ]);
-    for (call, [ours, sets, lines]) in [("plan", plan), ("price", price)] {
-        println!(
-            "  {call:<6} planner {ours:9.2} us   plain {sets:8.2} us, ratio {:5.2}   by line {lines:8.2} us, ratio {:5.2}",
-            ours / sets,
-            ours / lines
-        );
-    }
-    println!(
-        "  checksums {checks:15.2} us   share of planning: planner {:.0}%, plain {:.0}%, by line {:.0}%",
-        100.0 * checks / plan[0],
-        100.0 * checks / plan[1],
-        100.0 * checks / plan[2]
-    );
+fn answer<const B: usize>(call: impl FnOnce(&mut [u8]) -> Returned) -> (Returned, [u8; B]) {
+    let mut out = [0; B];
+    (call(&mut out), out)
 }
 
 fn word(bytes: &[u8], at: usize) -> u64 {
     u64::from_le_bytes(bytes[at..at + 8].try_into().unwrap())
 }
 
-/// One search, and U(k) by searches and by one walk.
-fn search_row(name: &str, file: &[u8], line: usize, k: usize) {
-    let mut founds = [[0u8; 24]; 2];
-    let [our_found, found] = &mut founds;
-    let mut sets = [[0u8; 64]; 3];
-    let [ours, searched, walked] = &mut sets;
-    let codes = [
-        calls::next_read(file, line, k, our_found),
-        searches::next_read(file, line, k, found),
-        calls::useful(file, k, ours),
-        searches::searched(file, k, searched),
-        searches::walked(file, k, walked),
-    ];
-    let same = codes.iter().all(|&c| c == codes[0])
-        && our_found == found
-        && ours == searched
-        && ours == walked;
+/// Holds both methods in Rust to the planner on random files, with refusals.
+fn hold_random() {
+    for seed in 0..TRIED {
+        let mut rng = Rng(seed);
+        let file = any(&mut rng);
+        let n = file[2] as usize;
+        let points = any_points(&mut rng, n);
+        let (a, b) = (
+            rng.below(n as u32 + 1) as usize,
+            rng.below(n as u32 + 2) as usize,
+        );
+        let planned = [
+            answer::<512>(|out| calls::plan(&file, out)),
+            answer(|out| fast::plan::<Counts>(&file, out)),
+            answer(|out| fast::plan::<ByLine>(&file, out)),
+        ];
+        let priced = [
+            answer::<512>(|out| calls::price(&file, &points, out)),
+            answer(|out| fast::price::<Counts>(&file, &points, out)),
+            answer(|out| fast::price::<ByLine>(&file, &points, out)),
+        ];
+        let regions = [
+            answer::<72>(|out| calls::region(&file, a, b, out)),
+            answer(|out| regions::region(&file, a, b, out)),
+        ];
+        let name = format!("the random file of seed {seed}");
+        assert!(
+            are_alike(&planned) && are_alike(&priced) && are_alike(&regions),
+            "{name}: answers differ"
+        );
+    }
+}
+
+/// Planning, and pricing the plans' points.
+fn plan_row(name: &str, files: &[Vec<u8>]) {
+    let mut plans = Vec::new();
+    for file in files {
+        let planned = [
+            answer::<512>(|out| calls::plan(file, out)),
+            answer(|out| fast::plan::<Counts>(file, out)),
+            answer(|out| fast::plan::<ByLine>(file, out)),
+        ];
+        hold_alike(name, &planned);
+        let plan = planned[0].1;
+        let priced = [
+            answer::<512>(|out| calls::price(file, &plan, out)),
+            answer(|out| fast::price::<Counts>(file, &plan, out)),
+            answer(|out| fast::price::<ByLine>(file, &plan, out)),
+        ];
+        hold_alike(name, &priced);
+        plans.push(plan);
+    }
+    let points = plans.iter().map(|plan| plan[4] as u64);
     println!(
-        "{name}: {} blocks, line {line} after block {k}: {} looked {}, U({k}) has size {}{}",
-        file.len() / 512,
-        match word(found, 0) {
-            0 => "none".to_string(),
-            _ => format!("read {}", word(found, 8)),
-        },
-        word(found, 16),
-        searched.iter().map(|b| b.count_ones()).sum::<u32>(),
-        if same { "" } else { ", ANSWERS DIFFER" }
+        "{name}: {}, {} points",
+        blocks_of(files),
+        least_to_most(points)
     );
 
-    let file = || black_box(file);
+    let mut out = [[0; 512]; 3];
+    let [ours, counts, lines] = black_box(&mut out);
+    let plan = medians(
+        ROUNDS,
+        files.len(),
+        [
+            &mut |i| keep(calls::plan(&files[i], ours)),
+            &mut |i| keep(fast::plan::<Counts>(&files[i], counts)),
+            &mut |i| keep(fast::plan::<ByLine>(&files[i], lines)),
+        ],
+    );
+    let price = medians(
+        ROUNDS,
+        files.len(),
+        [
+            &mut |i| keep(calls::price(&files[i], &plans[i], ours)),
+            &mut |i| keep(fast::price::<Counts>(&files[i], &plans[i], counts)),
+            &mut |i| keep(fast::price::<ByLine>(&files[i], &plans[i], lines)),
+        ],
+    );
+    for (call, times) in [("plan", plan), ("price", price)] {
+        say(
+            call,
+            times[0],
+            &[("plain", times[1]), ("by line", times[2])],
+        );
+    }
+    let of_plans = [
+        ("planner", plan[0]),
+        ("plain", plan[1]),
+        ("by line", plan[2]),
+    ];
+    say_checks(files, "planning", &of_plans);
+}
+
+/// The loaded lines and the length of a region.
+fn region_row(name: &str, files: &[Vec<u8>], a: usize, b: usize) {
+    let mut sizes = Vec::new();
+    for file in files {
+        let found = [
+            answer::<72>(|out| calls::region(file, a, b, out)),
+            answer(|out| regions::region(file, a, b, out)),
+        ];
+        hold_alike(name, &found);
+        sizes.push(
+            found[0].1[..64]
+                .iter()
+                .map(|byte| byte.count_ones() as u64)
+                .sum(),
+        );
+    }
+    let sizes = least_to_most(sizes.into_iter());
+    println!(
+        "{name}: {}, region {a} {b} reloads {sizes} lines",
+        blocks_of(files)
+    );
+
+    let (a, b) = (|| black_box(a), || black_box(b));
+    let mut out = [[0; 72]; 2];
+    let [ours, plain] = black_box(&mut out);
+    let region = medians(
+        ROUNDS,
+        files.len(),
+        [
+            &mut |i| keep(calls::region(&files[i], a(), b(), ours)),
+            &mut |i| keep(regions::region(&files[i], a(), b(), plain)),
+        ],
+    );
+    say("region", region[0], &[("plain", region[1])]);
+    say_checks(
+        files,
+        "a region",
+        &[("planner", region[0]), ("plain", region[1])],
+    );
+}
+
+/// One search, and U(k) by searches and by one walk.
+fn search_row(name: &str, files: &[Vec<u8>], line: usize, k: usize) {
+    let mut looked = Vec::new();
+    let mut sizes = Vec::new();
+    for file in files {
+        let found = [
+            answer::<24>(|out| calls::next_read(file, line, k, out)),
+            answer(|out| searches::next_read(file, line, k, out)),
+        ];
+        hold_alike(name, &found);
+        looked.push(word(&found[0].1, 16));
+        let useful = [
+            answer::<64>(|out| calls::useful(file, k, out)),
+            answer(|out| searches::searched(file, k, out)),
+            answer(|out| searches::walked(file, k, out)),
+        ];
+        hold_alike(name, &useful);
+        sizes.push(
+            useful[0]
+                .1
+                .iter()
+                .map(|byte| byte.count_ones() as u64)
+                .sum(),
+        );
+    }
+    println!(
+        "{name}: {}, line {line} after block {k}: looked {}, U({k}) has size {}",
+        blocks_of(files),
+        least_to_most(looked.into_iter()),
+        least_to_most(sizes.into_iter())
+    );
+
     let (line, k) = (|| black_box(line), || black_box(k));
-    let [checks] = medians([&mut || {
-        black_box(lowest_wrong(file()));
-    }]);
-    let search = medians([
-        &mut || {
-            keep(calls::next_read(file(), line(), k(), our_found));
-        },
-        &mut || {
-            keep(searches::next_read(file(), line(), k(), found));
-        },
-    ]);
-    let useful = medians([
-        &mut || {
-            keep(calls::useful(file(), k(), ours));
-        },
-        &mut || {
-            keep(searches::searched(file(), k(), searched));
-        },
-        &mut || {
-            keep(searches::walked(file(), k(), walked));
-        },
-    ]);
-    println!(
-        "  search planner {:9.2} us   plain {:8.2} us, ratio {:5.2}",
-        search[0],
-        search[1],
-        search[0] / search[1]
+    let mut founds = [[0; 24]; 2];
+    let [ours, plain] = black_box(&mut founds);
+    let search = medians(
+        ROUNDS,
+        files.len(),
+        [
+            &mut |i| keep(calls::next_read(&files[i], line(), k(), ours)),
+            &mut |i| keep(searches::next_read(&files[i], line(), k(), plain)),
+        ],
     );
-    println!(
-        "  U(k)   planner {:9.2} us   plain {:8.2} us, ratio {:5.2}   one walk {:7.2} us, ratio {:5.2}",
+    let mut sets = [[0; 64]; 3];
+    let [ours, searched, walked] = black_box(&mut sets);
+    let useful = medians(
+        ROUNDS,
+        files.len(),
+        [
+            &mut |i| keep(calls::useful(&files[i], k(), ours)),
+            &mut |i| keep(searches::searched(&files[i], k(), searched)),
+            &mut |i| keep(searches::walked(&files[i], k(), walked)),
+        ],
+    );
+    say("search", search[0], &[("plain", search[1])]);
+    say(
+        "U(k)",
         useful[0],
-        useful[1],
-        useful[0] / useful[1],
-        useful[2],
-        useful[0] / useful[2]
+        &[("plain", useful[1]), ("one walk", useful[2])],
     );
-    println!(
-        "  checksums {checks:15.2} us   share of a search: planner {:.0}%, plain {:.0}%",
-        100.0 * checks / search[0],
-        100.0 * checks / search[1]
+    say_checks(
+        files,
+        "a search",
+        &[("planner", search[0]), ("plain", search[1])],
     );
 }
 
 /// Both counts of a replay.
-fn replay_row(name: &str, file: &[u8], points: &[u16]) {
-    let mut counts = [[0u8; 16]; 3];
-    let [ours, walked, cached] = &mut counts;
-    let codes = [
-        calls::replay(file, points, ours),
-        replays::one_walk(file, points, walked),
-        replays::two_caches(file, points, cached),
-    ];
-    let same = codes.iter().all(|&c| c == codes[0]) && ours == walked && ours == cached;
+fn replay_row(name: &str, files: &[Vec<u8>], points: &[u16]) {
+    let mut misses = Vec::new();
+    for file in files {
+        let counts = [
+            answer::<16>(|out| calls::replay(file, points, out)),
+            answer(|out| replays::one_walk(file, points, out)),
+            answer(|out| replays::two_caches(file, points, out)),
+        ];
+        hold_alike(name, &counts);
+        misses.push([word(&counts[0].1, 0), word(&counts[0].1, 8)]);
+    }
     println!(
-        "{name}: {} blocks, {} points: misses {} with points {}{}",
-        file.len() / 512,
+        "{name}: {}, {} points: misses {} with points {}",
+        blocks_of(files),
         points.len(),
-        word(walked, 0),
-        word(walked, 8),
-        if same { "" } else { ", ANSWERS DIFFER" }
+        least_to_most(misses.iter().map(|m| m[0])),
+        least_to_most(misses.iter().map(|m| m[1]))
     );
 
-    let file = || black_box(file);
     let points = || black_box(points);
-    let [checks] = medians([&mut || {
-        black_box(lowest_wrong(file()));
-    }]);
-    let replay = medians([
-        &mut || {
-            keep(calls::replay(file(), points(), ours));
-        },
-        &mut || {
-            keep(replays::one_walk(file(), points(), walked));
-        },
-        &mut || {
-            keep(replays::two_caches(file(), points(), cached));
-        },
-    ]);
-    println!(
-        "  replay planner {:9.2} us   plain {:8.2} us, ratio {:5.2}   two caches {:5.2} us, ratio {:5.2}",
+    let mut out = [[0; 16]; 3];
+    let [ours, walked, cached] = black_box(&mut out);
+    let replay = medians(
+        ROUNDS,
+        files.len(),
+        [
+            &mut |i| keep(calls::replay(&files[i], points(), ours)),
+            &mut |i| keep(replays::one_walk(&files[i], points(), walked)),
+            &mut |i| keep(replays::two_caches(&files[i], points(), cached)),
+        ],
+    );
+    say(
+        "replay",
         replay[0],
-        replay[1],
-        replay[0] / replay[1],
-        replay[2],
-        replay[0] / replay[2]
+        &[("plain", replay[1]), ("two caches", replay[2])],
     );
-    println!(
-        "  checksums {checks:15.2} us   share of a replay: planner {:.0}%, plain {:.0}%, two caches {:.0}%",
-        100.0 * checks / replay[0],
-        100.0 * checks / replay[1],
-        100.0 * checks / replay[2]
-    );
+    let times = [
+        ("planner", replay[0]),
+        ("plain", replay[1]),
+        ("two caches", replay[2]),
+    ];
+    say_checks(files, "a replay", &times);
 }
 
 /// A file from a seed, made over the one before: the buffer is not cleared first.
 fn generate_row(name: &str, n: u32, m: u32) {
+    const SEEDS: usize = 8;
+    let numbers = |seed: usize| [seed as u32, n, m, 512, 5000, 10];
     let mut files = [(); 2].map(|_| vec![0xFF; 512 * (1 + n + m) as usize]);
-    let [ours, plain] = &mut files;
-    let codes = [
-        calls::generate([7, n, m, 512, 5000, 10], ours),
-        generate::generate(7, n, m, 512, 5000, 10, plain),
-    ];
-    let same = codes == [Ok(()); 2] && ours == plain;
-    let (mut ours_seed, mut plain_seed) = (0, 0);
-    let [planner, rust] = medians([
-        &mut || {
-            ours_seed += 1;
-            let numbers = [black_box(ours_seed), n, m, 512, 5000, 10];
-            keep(calls::generate(numbers, black_box(ours)));
-        },
-        &mut || {
-            plain_seed += 1;
-            keep(generate::generate(
-                black_box(plain_seed),
-                n,
-                m,
-                512,
-                5000,
-                10,
-                black_box(plain),
-            ));
-        },
-    ]);
-    println!(
-        "{name} made from a seed{}\n  make   planner {planner:9.2} us   plain {rust:8.2} us, ratio {:5.2}",
-        if same { "" } else { ", FILES DIFFER" },
-        planner / rust
+    let [ours, plain] = black_box(&mut files);
+    for seed in 0..SEEDS {
+        let returned = [
+            calls::generate(numbers(seed), ours),
+            generate::generate(numbers(seed), plain),
+        ];
+        hold_alike(name, &[(returned[0], &*ours), (returned[1], &*plain)]);
+    }
+    println!("{name} made from a seed");
+    let make = medians(
+        ROUNDS,
+        SEEDS,
+        [
+            &mut |seed| keep(calls::generate(numbers(seed), ours)),
+            &mut |seed| keep(generate::generate(numbers(seed), plain)),
+        ],
     );
+    say("make", make[0], &[("plain", make[1])]);
 }
 
 /// Two files joined, over the joined file before.
-fn join_row(name: &str, first: &[u8], second: &[u8]) {
-    let mut files = [(); 2].map(|_| vec![0xFF; first.len() + second.len() - 512]);
-    let [ours, plain] = &mut files;
-    let codes = [
-        calls::join(first, second, ours),
-        join::join(first, second, plain),
-    ];
-    let same = codes == [Ok(()); 2] && ours == plain;
-    let (first, second) = (|| black_box(first), || black_box(second));
-    let [checks] = medians([&mut || {
-        black_box([lowest_wrong(first()), lowest_wrong(second())]);
-    }]);
-    let [planner, rust] = medians([
-        &mut || {
-            keep(calls::join(first(), second(), black_box(ours)));
-        },
-        &mut || {
-            keep(join::join(first(), second(), black_box(plain)));
-        },
-    ]);
-    println!(
-        "{name}: {} blocks joined{}\n  join   planner {planner:9.2} us   plain {rust:8.2} us, ratio {:5.2}",
-        files[0].len() / 512,
-        if same { "" } else { ", FILES DIFFER" },
-        planner / rust
+fn join_row(name: &str, first: &[Vec<u8>], second: &[Vec<u8>]) {
+    let mut files = [(); 2].map(|_| vec![0xFF; first[0].len() + second[0].len() - 512]);
+    let [ours, plain] = black_box(&mut files);
+    for (first, second) in first.iter().zip(second) {
+        let returned = [
+            calls::join(first, second, ours),
+            join::join(first, second, plain),
+        ];
+        hold_alike(name, &[(returned[0], &*ours), (returned[1], &*plain)]);
+    }
+    println!("{name}: {} blocks joined", ours.len() / 512);
+    let join = medians(
+        ROUNDS,
+        first.len(),
+        [
+            &mut |i| keep(calls::join(&first[i], &second[i], ours)),
+            &mut |i| keep(join::join(&first[i], &second[i], plain)),
+        ],
     );
-    println!(
-        "  checksums read {checks:10.2} us   share of a join: planner {:.0}%, plain {:.0}%",
-        100.0 * checks / planner,
-        100.0 * checks / rust
-    );
+    say("join", join[0], &[("plain", join[1])]);
+    let both: Vec<Vec<u8>> = first
+        .iter()
+        .zip(second)
+        .map(|(f, s)| [&f[..], s].concat())
+        .collect();
+    say_checks(&both, "a join", &[("planner", join[0]), ("plain", join[1])]);
 }
 
 fn main() {
-    println!("plain: line sets of eight words, carried unions; by line: one word per line");
-    println!("all three hash four blocks side by side; medians of {ROUNDS} rounds in turns");
-    let largest = Shape {
-        n: 64,
-        m: 32,
-        s: 512,
-        r: 124,
-        limit: 5000,
-        scratch: (0, 0),
-    };
-    row("largest file", &drawn(&largest));
-    row(
-        "largest file, Q without limit",
-        &drawn(&Shape {
-            limit: u32::MAX,
-            ..largest
-        }),
+    hold_random();
+    println!(
+        "plain: one walk over the reads and counts, as the planner; by line: one word per line"
     );
-    row(
-        "largest file, half of its numbers bypass the cache",
-        &drawn(&Shape {
-            scratch: (512, 512),
-            ..largest
-        }),
-    );
-    row("File Seven", &seven());
+    println!("all three hash four blocks side by side; medians of {ROUNDS} rounds in turns, the files of a row in rotation");
+    for (name, files) in planned() {
+        plan_row(&name, &files);
+    }
+    let seven = [seven()];
+    let largest = rotated(|seed| drawn(&LARGEST, seed));
+    println!("a region; plain: one walk up to its first edge, and one over its own blocks");
+    region_row("largest file, short region", &largest, 32, 33);
+    region_row("largest file, long region", &largest, 1, 64);
+    region_row("File Seven", &seven, 1, 3);
     println!("a search, and U(k); plain: one search for each line that holds something; one walk: for all lines");
     for (name, first, again) in [
         ("next read near", 1, Again::InEachBlock),
@@ -368,24 +405,24 @@ fn main() {
         ("no next read", 1, Again::Never),
         ("no next read, 496 lines held", 4, Again::Never),
     ] {
-        search_row(name, &reread(&largest, first, again), 0, first);
+        let files = rotated(|seed| reread(&LARGEST, first, again, seed));
+        search_row(name, &files, 0, first);
     }
-    search_row("largest file", &drawn(&largest), 0, 32);
-    search_row("File Seven", &seven(), 1, 1);
+    search_row("largest file", &largest, 0, 32);
+    search_row("File Seven", &seven, 1, 1);
     println!("a replay; plain: the same one walk; two caches: H emptied by a loop at each point");
-    let file = drawn(&largest);
     let edges: Vec<u16> = (1..64).collect();
     let eighths: Vec<u16> = (1..8).map(|i| 8 * i).collect();
     for points in [&[][..], &eighths, &edges] {
-        replay_row("largest file", &file, points);
+        replay_row("largest file", &largest, points);
     }
-    replay_row("File Seven", &seven(), &[1, 2]);
+    replay_row("File Seven", &seven, &[1, 2]);
     generate_row("largest file", 64, 32);
     generate_row("file of five blocks", 3, 1);
     let half = Shape {
         n: 32,
         m: 16,
-        ..largest
+        ..LARGEST
     };
     let other = Shape {
         limit: 4000,
@@ -393,25 +430,12 @@ fn main() {
     };
     join_row(
         "two halves of the largest file",
-        &drawn(&half),
-        &drawn(&other),
+        &rotated(|seed| drawn(&half, seed)),
+        &rotated(|seed| drawn(&other, seed + 8)),
     );
-    join_row("File Seven twice", &seven(), &seven());
+    join_row("File Seven twice", &seven, &seven);
     println!("growth, Q without limit:");
-    let unlimited = |n, r| {
-        drawn(&Shape {
-            n,
-            m: 32,
-            s: 512,
-            r,
-            limit: u32::MAX,
-            scratch: (0, 0),
-        })
-    };
-    for n in [8, 16, 32, 64] {
-        row(&format!("N {n}, r 124, M 32"), &unlimited(n, 124));
-    }
-    for r in [8, 31, 62, 124] {
-        row(&format!("r {r}, N 64, M 32"), &unlimited(64, r));
+    for (name, files) in growing() {
+        plan_row(&name, &files);
     }
 }

@@ -3,22 +3,22 @@
 use crate::fast::{numbers, open, refusal, Task};
 use calls::Returned;
 
-fn struck_lines(task: &Task) -> [bool; 512] {
-    let mut struck = [false; 512];
-    for block in task.interrupters() {
+fn evicted_lines(task: &Task) -> [bool; 512] {
+    let mut evicted = [false; 512];
+    for block in task.preempters() {
         for m in numbers(block) {
             if let Some(c) = task.lines.of(m) {
-                struck[c] = true;
+                evicted[c] = true;
             }
         }
     }
-    struck
+    evicted
 }
 
 /// One walk, as the planner does: with the points a line of H has lost what it holds if no block has
 /// read it since the last point.
 fn by_one_walk(task: &Task, points: &[u16]) -> [u64; 2] {
-    let struck = struck_lines(task);
+    let evicted = evicted_lines(task);
     let mut held = [None; 512];
     let mut since = [0; 512];
     let (mut alone, mut preempted) = (0, 0);
@@ -30,7 +30,7 @@ fn by_one_walk(task: &Task, points: &[u16]) -> [u64; 2] {
                 continue;
             };
             let hit = held[c] == Some(m);
-            let lost = struck[c] & (since[c] <= last);
+            let lost = evicted[c] & (since[c] <= last);
             alone += !hit as u64;
             preempted += !(hit & !lost) as u64;
             held[c] = Some(m);
@@ -46,7 +46,7 @@ fn by_one_walk(task: &Task, points: &[u16]) -> [u64; 2] {
 
 /// Two caches, and at each point a loop that empties the lines of H in the second.
 fn by_two_caches(task: &Task, points: &[u16]) -> [u64; 2] {
-    let struck = struck_lines(task);
+    let evicted = evicted_lines(task);
     let mut caches = [[None; 512]; 2];
     let mut misses = [0; 2];
     let mut rest = points;
@@ -62,8 +62,8 @@ fn by_two_caches(task: &Task, points: &[u16]) -> [u64; 2] {
         }
         if rest.first().is_some_and(|&p| p as usize == k) {
             rest = &rest[1..];
-            for (line, struck) in caches[1].iter_mut().zip(struck) {
-                if struck {
+            for (line, evicted) in caches[1].iter_mut().zip(evicted) {
+                if evicted {
                     *line = None;
                 }
             }

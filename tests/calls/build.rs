@@ -3,6 +3,7 @@
 use std::env;
 
 fn main() {
+    println!("cargo:rustc-check-cfg=cfg(old)");
     println!("cargo:rerun-if-changed=build.rs");
     println!("cargo:rerun-if-env-changed=PLANNER_LIB_DIR");
     match env::var("PLANNER_LIB_DIR") {

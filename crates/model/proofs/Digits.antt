@@ -164,11 +164,11 @@ count-one (suc n) d s h =
     (λ e. rw (count-one n d s (omega arith), ne-eqb n d e) (add-zero (bit (s d))))
 
 -- two sets have as many lines as two others where they do on each line
-pub count-sum : (n : ℕ) (q r s t : Lines) → ((c : ℕ) → bit (q c) + bit (r c) ≡ bit (s c) + bit (t c))
+pub count-sum : (n : ℕ) (q r s t : Lines) → ((c : ℕ) → c < n → bit (q c) + bit (r c) ≡ bit (s c) + bit (t c))
     → countBelow n q + countBelow n r ≡ countBelow n s + countBelow n t
 unfolding countBelow
 count-sum zero q r s t h = refl
-count-sum (suc n) q r s t h = omega (arith, count-sum n q r s t h, h n)
+count-sum (suc n) q r s t h = omega (arith, count-sum n q r s t (λ c l. h c (omega arith)), h n (le-refl (suc n)))
 
 -- ---- numbers from digits
 

@@ -2,11 +2,13 @@ pub mod Digits
 pub mod Sets
 pub mod LineStates
 pub mod ReadOrder
+pub mod Histories
 pub mod Verdicts
 pub mod Lists
 pub mod Lowest
 pub mod Order
 pub mod Regions
+pub mod Loads
 pub mod Places
 pub mod Replay
 pub mod Seen

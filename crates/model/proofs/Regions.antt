@@ -2,17 +2,17 @@
 -- Assumes nothing.
 use Prim.Native.Nat.{ℕ, zero, suc, _+_, _-_, _*_, _≤_}
 use mathlib.Core.Path.{_≡_, refl, sym, ap, _∙_}
-use mathlib.Core.Bool.{true, false, _&&_, and-eq-true-iff}
+use mathlib.Core.Bool.{Bool, true, false, not, _&&_, and-eq-true-iff, and-false, false≢true}
 use mathlib.Core.List.{List, [], _∷_}
 use native.Mathlib.Nat.{le-refl, lt-of-lt-of-le, add-zero, add-suc, mul-zero, mul-add, mul-le-mul}
 use native.Mathlib.Omega.{arith}
 use borrow.Author.Tests.{leb-false, lt-leb}
 use lib.ListN.{length}
-use Rattle.model.specs.Sets.{Lines}
+use Rattle.model.specs.Sets.{Lines, bit}
 use Rattle.model.specs.Task.{Task, blockCount}
 use Rattle.model.specs.Lists.{Region, steps, regions, total, rightPoint, wellFormed, wrongPoint}
 use Rattle.model.specs.Lines.{useful, evicted}
-use Rattle.model.specs.Regions.{unionAfter, timeAfter, loaded, regionLines, regionLength, regionFits, regionCost}
+use Rattle.model.specs.Regions.{unionAfter, timeAfter, loaded, regionLines, newLines, regionLength, regionFits, regionCost}
 use Rattle.model.specs.Regions.{lines, fits, regionAbove}
 use Rattle.model.specs.Answers.{refusedAt, pricing}
 use Rattle.model.specs.Laws.{CostOfLines}
@@ -20,7 +20,7 @@ use Rattle.model.specs.declared.Place.{Place}
 use Rattle.model.specs.declared.Place.the-variants.{Nowhere, At}
 use Rattle.model.specs.declared.Refusal.the-variants.{Argument, AboveLimit}
 use Rattle.model.specs.declared.Verdict.the-variants.{Accepted}
-use Rattle.model.proofs.Digits.{count-le, count-within}
+use Rattle.model.proofs.Digits.{count-le, count-within, count-none, count-sum}
 use Rattle.model.proofs.Lists.{lowest-none, none-lowest}
 
 scaled : (t : Task) (rs : List Region) → total (regionCost t) rs ≡ t .header .reload * total (regionLines t) rs
@@ -33,7 +33,8 @@ scaled t (r ∷ rs) =
 pub cost-of-lines : CostOfLines
 cost-of-lines t ps = scaled t (regions (blockCount t) 0 ps)
 
-lines-region : (t : Task) (a b : ℕ) → regionLines t a b ≤ 512
+-- a region loads at most all lines
+pub lines-region : (t : Task) (a b : ℕ) → regionLines t a b ≤ 512
 unfolding regionLines
 lines-region t a b = count-le 512 (loaded t a b)
 
@@ -91,3 +92,30 @@ module _ (t : Task) (a b c : ℕ) (h : b ≤ c) where
   pub longer-above : regionFits t a b ≡ false → regionFits t a c ≡ false
   unfolding regionFits
   longer-above e = lt-leb _ _ (lt-of-lt-of-le (leb-false _ _ e) length-grows)
+
+-- a region's lines, block after block
+
+bit-new : (s t : Bool) → (s ≡ true → t ≡ true) → bit s + bit (t && not s) ≡ bit t + bit false
+bit-new true true h = refl
+bit-new true false h = absurd (false≢true (h refl))
+bit-new false true h = refl
+bit-new false false h = refl
+
+pub region-none : (t : Task) (a : ℕ) → regionLines t a a ≡ 0
+unfolding regionLines loaded unionAfter
+region-none t a =
+    let none : a - a ≡ 0 = omega arith in
+    count-none 512 (loaded t a a) (λ c _. rw none (and-false (useful t a c && evicted t c)))
+
+pub region-longer : (t : Task) (a b : ℕ) → regionLines t a (suc b) ≡ regionLines t a b + newLines t a (suc b)
+unfolding regionLines newLines
+region-longer t a b =
+    let before : suc b - 1 ≡ b = omega arith in
+    let new : Lines = λ c. loaded t a (suc b) c && not (loaded t a b c) in
+    rw before
+    (omega (
+      arith,
+      count-sum 512 (loaded t a b) new (loaded t a (suc b)) (λ c. false)
+          (λ c _. bit-new (loaded t a b c) (loaded t a (suc b) c) (loaded-grows t a b (suc b) (omega arith) c)),
+      count-none 512 (λ c. false) (λ c _. refl),
+    ))

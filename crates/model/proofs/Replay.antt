@@ -2,29 +2,31 @@
 -- At a point the cache with points is the other one with H emptied. A read on an emptied line misses; alone it misses too, unless the line holds
 -- its number. So a region has one miss more for each line of H that its first read finds held alone, and these are its loaded lines. At the next
 -- point H is emptied again, whatever was read since. Assumes nothing.
-use Prim.Native.Nat.{ℕ, zero, suc, _+_, _-_, _%_, _≤_, _<_, zero-le}
+use Prim.Native.Nat.{ℕ, suc, _+_, _-_, _%_, _≤_, _<_, zero-le}
 use mathlib.Core.Path.{_≡_, refl, sym, ap, _∙_, fun-ext}
-use mathlib.Core.Bool.{Bool, true, false, not, cond, _&&_, and-true, and-false, and-comm, and-eq-true-iff}
+use mathlib.Core.Bool.{Bool, true, false, not, cond, _&&_, and-false, and-eq-true-iff}
 use mathlib.Core.List.{List, [], _∷_, _++_, append-nil}
-use native.Mathlib.Nat.{le-refl, mod-lt, zero-add, add-zero, add-suc, add-assoc}
+use native.Mathlib.Nat.{le-refl, mod-lt, zero-add, add-zero, add-assoc}
 use native.Mathlib.Omega.{arith}
 use lib.Dec.{ltb}
-use lib.ListN.{length, take, drop, take-append-drop, length-drop}
-use lib.Seq.{length-take-le, take-suc, take-add, take-all, getD-drop, drop-drop}
+use lib.ListN.{length, getD, take, drop, take-append-drop, length-drop}
+use lib.Seq.{length-take-le, take-add, take-all, drop-drop}
 use borrow.Author.Tests.{eq-eqb, ne-eqb, ltb-true}
 use Rattle.model.specs.Sets.{Lines, listed, bit, countBelow}
-use Rattle.model.specs.Task.{Block, Task, blockCount, lineCount, noBlock}
-use Rattle.model.specs.Lines.{bypasses, lineOf, isLine, onLine, lastRead, firstRead, anyRead, sameBlock, readsOf, blockAt, stateAfter, nextRead, useful, accessed, evicted}
+use Rattle.model.specs.Task.{Block, Task, blockCount, lineCount}
+use Rattle.model.specs.Lines.{bypasses, lineOf, isLine, onLine, lastRead, firstRead, sameBlock, readsOf, blockAt, stateAfter, evicted}
 use Rattle.model.specs.Lists.{steps, regions, every, total, rightPoint}
-use Rattle.model.specs.Regions.{unionAfter, loaded, regionLines, lines}
+use Rattle.model.specs.Regions.{loaded, regionLines, lines}
 use Rattle.model.specs.Replay.{Cache, emptyCache, missAt, miss, fetch, misses, after, emptied, atEdge, walk, missesWith, missesAlone}
 use Rattle.model.specs.Laws.{AddedMisses}
 use Rattle.model.specs.declared.Line.{Line}
 use Rattle.model.specs.declared.Line.the-variants.{Empty, Held}
 use Rattle.model.specs.declared.Mapping.the-variants.{Uncached, Cached}
 use Rattle.model.proofs.Digits.{count-agree, count-none, count-one, count-sum}
-use Rattle.model.proofs.LineStates.{any-append, first-none, first-append, never-empty}
-use Rattle.model.proofs.ReadOrder.{reads-append}
+use Rattle.model.proofs.LineStates.{never-empty}
+use Rattle.model.proofs.Loads.{between, loaded-is}
+use Rattle.model.proofs.Histories.{readsBefore, Holds, before-more}
+use Rattle.model.proofs.ReadOrder.{allReads, edge, reads-append}
 
 -- one line at a read of m, in a cache where it is l and in one that may have lost it: what the second one's miss adds now and is to add later.
 -- f is the line's next read after this one
@@ -41,7 +43,7 @@ one-line true true l f m = go (sameBlock l (Held m))
     go false = refl
 
 -- no rising list that starts after a has a point up to a
-pub none-listed : (n a : ℕ) (qs : List ℕ) (j : ℕ) → every (rightPoint n) (steps a qs) ≡ true → j ≤ a → listed qs j ≡ false
+none-listed : (n a : ℕ) (qs : List ℕ) (j : ℕ) → every (rightPoint n) (steps a qs) ≡ true → j ≤ a → listed qs j ≡ false
 unfolding every steps listed
 none-listed n a [] j w l = refl
 none-listed n a (q ∷ qs) j w l =
@@ -98,10 +100,7 @@ module _ (t : Task) where
       )
       (sym (add-assoc (misses t s (b .reads)) _ _))
 
-  -- the blocks of a region, and the cache alone at an edge
-
-  abbrev between : ℕ → ℕ → List Block
-  between a b = take (b - a) (drop a (t .blocks))
+  -- the cache alone at an edge
 
   abbrev cacheAt : ℕ → Cache
   cacheAt k = after t emptyCache (readsOf (take k (t .blocks)))
@@ -110,57 +109,21 @@ module _ (t : Task) where
     there : b ≡ a + (b - a)
     there = omega arith
 
-    rest-at : drop a (t .blocks) ≡ between a b ++ drop b (t .blocks)
+    rest-at : drop a (t .blocks) ≡ between t a b ++ drop b (t .blocks)
     rest-at =
         sym (take-append-drop (b - a) (drop a (t .blocks))) ∙
-        ap (λ (bs : List Block). between a b ++ bs) (drop-drop (b - a) a (t .blocks) ∙ ap (λ (n : ℕ). drop n (t .blocks)) (sym there))
+        ap (λ (bs : List Block). between t a b ++ bs) (drop-drop (b - a) a (t .blocks) ∙ ap (λ (n : ℕ). drop n (t .blocks)) (sym there))
 
-    cache-at : cacheAt b ≡ after t (cacheAt a) (readsOf (between a b))
+    cache-at : cacheAt b ≡ after t (cacheAt a) (readsOf (between t a b))
     cache-at =
         ap (λ (n : ℕ). after t emptyCache (readsOf (take n (t .blocks)))) there ∙
         rw (take-add a (b - a) (t .blocks), reads-append (take a (t .blocks)), after-append emptyCache) refl
 
-  union-reads : (a n c : ℕ) → a + n ≤ blockCount t → unionAfter (accessed t) a n c ≡ anyRead (onLine t c) (readsOf (take n (drop a (t .blocks))))
-  unfolding unionAfter accessed blockAt anyRead readsOf
-  union-reads a zero c h = refl
-  union-reads a (suc n) c h =
-      rw (
-        add-suc,
-        take-suc (drop a (t .blocks)) n noBlock (omega (arith, length-drop a (t .blocks))),
-        reads-append,
-        any-append,
-        getD-drop,
-        append-nil,
-        union-reads a n c (omega arith),
-      ) refl
-
-  -- a loaded line is one of H whose first read in the region finds its number
-  loaded-is : (a b : ℕ) → a ≤ b → b ≤ blockCount t → (c : ℕ)
-      → loaded t a b c ≡ (evicted t c && sameBlock (cacheAt a c) (firstRead (onLine t c) (readsOf (between a b))))
-  unfolding loaded useful stateAfter nextRead
-  loaded-is a b l h c =
-      rw (union-reads a (b - a) c (omega arith), after-line emptyCache (readsOf (take a (t .blocks))) c, next)
-      (go (lastRead on Empty (readsOf (take a (t .blocks)))) (evicted t c) (anyRead on xs) refl)
-    where
-      on : ℕ → Bool
-      on = onLine t c
-
-      xs : List ℕ
-      xs = readsOf (between a b)
-
-      ys : List ℕ
-      ys = readsOf (drop (b - a) (drop a (t .blocks)))
-
-      next : firstRead on (readsOf (drop a (t .blocks))) ≡ cond (anyRead on xs) (firstRead on xs) (firstRead on ys)
-      next = ap (λ (bs : List Block). firstRead on (readsOf bs)) (sym (take-append-drop (b - a) (drop a (t .blocks)))) ∙
-          ap (firstRead on) (reads-append (between a b) (drop (b - a) (drop a (t .blocks)))) ∙ first-append on xs ys
-
-      go : (l : Line) (h any : Bool) → anyRead on xs ≡ any
-          → (sameBlock l (cond any (firstRead on xs) (firstRead on ys)) && h && any) ≡ (h && sameBlock l (firstRead on xs))
-      go l h true e = and-true (sameBlock l (firstRead on xs) && h) ∙ and-comm (sameBlock l (firstRead on xs)) h
-      go l h false e =
-          and-false (sameBlock l (firstRead on ys) && h) ∙
-          sym (ap (λ (f : Line). h && sameBlock l f) (first-none on xs e) ∙ ap (λ (x : Bool). h && x) (never-empty l) ∙ and-false h)
+  -- a loaded line is one of H whose first read in the region finds its number in the cache alone
+  loaded-alone : (a b : ℕ) → a ≤ b → b ≤ blockCount t → (c : ℕ)
+      → loaded t a b c ≡ (evicted t c && sameBlock (cacheAt a c) (firstRead (onLine t c) (readsOf (between t a b))))
+  unfolding stateAfter
+  loaded-alone a b l h c = loaded-is t a b l h c ∙ rw (after-line emptyCache (readsOf (take a (t .blocks))) c) refl
 
   module _ (least : 1 ≤ lineCount t) (most : lineCount t ≤ 512) where
     -- a read's miss: the lines on which it is one, of which there is one at most
@@ -180,7 +143,7 @@ module _ (t : Task) where
     unfolding emptied fetch
     read-misses lost s m f =
         rw (miss-lines (emptied lost s) m, miss-lines s m)
-        (count-sum 512 _ _ _ _ (λ c. one-line (onLine t c m) (lost c) (s c) (f c) m))
+        (count-sum 512 _ _ _ _ (λ c h. one-line (onLine t c m) (lost c) (s c) (f c) m))
 
     -- a cache that lost some lines misses once more for each of them that holds its next read in the other
     lost-misses : (lost : Lines) (s : Cache) (xs : List ℕ)
@@ -202,9 +165,9 @@ module _ (t : Task) where
 
     -- so a region from an edge where H was emptied has one miss more for each loaded line
     region-misses : (a b : ℕ) → a ≤ b → b ≤ blockCount t
-        → misses t (emptied (evicted t) (cacheAt a)) (readsOf (between a b)) ≡ misses t (cacheAt a) (readsOf (between a b)) + regionLines t a b
+        → misses t (emptied (evicted t) (cacheAt a)) (readsOf (between t a b)) ≡ misses t (cacheAt a) (readsOf (between t a b)) + regionLines t a b
     unfolding regionLines
-    region-misses a b l h = rw (lost-misses (evicted t) (cacheAt a) (readsOf (between a b)), count-agree 512 (λ c m. loaded-is a b l h c)) refl
+    region-misses a b l h = rw (lost-misses (evicted t) (cacheAt a) (readsOf (between t a b)), count-agree 512 (λ c m. loaded-alone a b l h c)) refl
 
     -- from an edge where H was emptied to the end
     from-edge : (ps qs : List ℕ) (a : ℕ) → a ≤ blockCount t → every (rightPoint (blockCount t)) (steps a qs) ≡ true
@@ -213,7 +176,7 @@ module _ (t : Task) where
         ≡ misses t (cacheAt a) (readsOf (drop a (t .blocks))) + total (regionLines t) (regions (blockCount t) a qs)
     unfolding every steps total regions listed atEdge
     from-edge ps [] a l w h =
-        let whole : between a (blockCount t) ≡ drop a (t .blocks) = take-all (blockCount t - a) (drop a (t .blocks)) (omega (arith, length-drop a (t .blocks))) in
+        let whole : between t a (blockCount t) ≡ drop a (t .blocks) = take-all (blockCount t - a) (drop a (t .blocks)) (omega (arith, length-drop a (t .blocks))) in
         rw (quiet ps (emptied (evicted t) (cacheAt a)) a (drop a (t .blocks)) h, ← whole, region-misses a (blockCount t) l (le-refl (blockCount t)), add-zero)
     from-edge ps (q ∷ qs) a l w h =
         let both = and-eq-true-iff (rightPoint (blockCount t) a q) (every (rightPoint (blockCount t)) (steps q qs)) .0 w in
@@ -227,18 +190,44 @@ module _ (t : Task) where
         let ih = from-edge ps qs q (omega arith) (both .1) (λ j u. h j (omega arith) ∙ rw (ne-eqb q j (λ e. omega arith)) refl) in
         rw (
           rest-at a q (omega arith),
-          up-to ps (emptied (evicted t) (cacheAt a)) a q (between a q) (drop q (t .blocks)) (omega arith) (omega arith) next,
+          up-to ps (emptied (evicted t) (cacheAt a)) a q (between t a q) (drop q (t .blocks)) (omega arith) (omega arith) next,
           here,
           emptied-again,
           ← (cache-at a q (omega arith)),
-          reads-append (between a q),
+          reads-append (between t a q),
           misses-append,
           ← (cache-at a q (omega arith)),
         )
         (omega (arith, region-misses a q (omega arith) (omega arith), ih))
 
+-- the replay alone misses those of all reads
+pub misses-alone : (t : Task) → missesAlone t ≡ misses t emptyCache (allReads t)
+unfolding missesAlone missesWith listed
+misses-alone t = quiet t [] emptyCache 0 (t .blocks) (λ j l. refl)
+
+-- and its misses grow with read j of block i + 1, of number m
+module _ (t : Task) (i j m : ℕ) (hi : i < blockCount t) (hj : j < length (blockAt t i .reads)) (is : getD (blockAt t i .reads) j 0 ≡ m) where
+  misses-one : misses t emptyCache (readsBefore t (suc (edge t i + j)))
+      ≡ misses t emptyCache (readsBefore t (edge t i + j)) + bit (miss t (after t emptyCache (readsBefore t (edge t i + j))) m)
+  unfolding misses
+  misses-one =
+      ap (misses t emptyCache) (before-more t i j m hi hj is) ∙ misses-append t emptyCache (readsBefore t (edge t i + j)) (m ∷ []) ∙
+      ap (λ (n : ℕ). misses t emptyCache (readsBefore t (edge t i + j)) + n) (add-zero _)
+
+  -- on no line it is no miss
+  pub misses-skip : lineOf t m ≡ Uncached → misses t emptyCache (readsBefore t (suc (edge t i + j))) ≡ misses t emptyCache (readsBefore t (edge t i + j))
+  unfolding miss
+  misses-skip at = misses-one ∙ rw at (add-zero _)
+
+  -- on a line it misses where the line does not hold it
+  pub misses-more : {held : List Line} (line : ℕ) → line < 512 → lineOf t m ≡ Cached line → Holds t (edge t i + j) held
+      → misses t emptyCache (readsBefore t (suc (edge t i + j)))
+      ≡ misses t emptyCache (readsBefore t (edge t i + j)) + bit (not (sameBlock (getD held line Empty) (Held m)))
+  unfolding miss
+  misses-more line hl at h = misses-one ∙ rw (at, after-line t emptyCache (readsBefore t (edge t i + j)) line, ← (h .states line hl)) refl
+
 -- an empty cache has nothing to lose
-pub empty-loses : (h : Lines) → emptied h emptyCache ≡ emptyCache
+empty-loses : (h : Lines) → emptied h emptyCache ≡ emptyCache
 unfolding emptied
 empty-loses h = fun-ext (λ c. go (h c))
   where
@@ -250,4 +239,4 @@ pub added-misses : AddedMisses
 unfolding missesWith missesAlone readsOf after listed
 added-misses t least most ps w =
     ap (λ (s : Cache). walk t ps s 0 (t .blocks)) (sym (empty-loses (evicted t))) ∙ from-edge t least most ps ps 0 zero-le w (λ j l. refl) ∙
-    ap (λ (n : ℕ). n + lines t ps) (sym (quiet t [] emptyCache 0 (t .blocks) (λ j l. refl)))
+    ap (λ (n : ℕ). n + lines t ps) (sym (misses-alone t))

@@ -1,6 +1,6 @@
 -- Regions of a task (document 01, "Stretches and price"; document 02, item 3). Assumes nothing.
 use Prim.Native.Nat.{ℕ, zero, suc, _+_, _-_, _*_}
-use mathlib.Core.Bool.{Bool, false, _&&_, _||_}
+use mathlib.Core.Bool.{Bool, false, not, _&&_, _||_}
 use mathlib.Core.List.{List}
 use lib.Dec.{leb}
 use Rattle.model.specs.Sets.{Lines, size}
@@ -27,6 +27,10 @@ loaded t a b c = useful t a c && evicted t c && unionAfter (accessed t) a (b - a
 -- the lines that a region reloads
 unfoldable pub regionLines : Task → ℕ → ℕ → ℕ
 regionLines t a b = size (loaded t a b)
+
+-- the lines that the region from a loads first in block b: those of loaded(a, b) that loaded(a, b - 1) has not
+unfoldable pub newLines : Task → ℕ → ℕ → ℕ
+newLines t a b = size (λ c. loaded t a b c && not (loaded t a (b - 1) c))
 
 -- the length of a region: its times, and one reload for each loaded line
 unfoldable pub regionLength : Task → ℕ → ℕ → ℕ

@@ -1,1 +1,2 @@
 pub mod Optimal
+pub mod Rows

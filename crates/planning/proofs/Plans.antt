@@ -1,24 +1,25 @@
--- What a placement and its price make of a plan: demand 3 for the task whose regions the table holds.
+-- What a list and its price make of a plan, and demand 3 of the list that the choices at all edges lead along.
 -- Assumes nothing.
-use Prim.Native.Nat.{ℕ, _-_, _≤_, _<_}
+use Prim.Native.Nat.{ℕ, _-_, _^_, _≤_, _<_, zero-le}
 use mathlib.Core.Path.{_≡_, refl, sym, ap, _∙_}
-use mathlib.Core.Bool.{true, false}
 use mathlib.Core.Logic.{inl, inr}
 use mathlib.Core.List.{List, _++_}
+use native.Mathlib.Nat.{mod-eq-of-lt}
 use native.Mathlib.Omega.{arith}
-use lib.ListN.{length, take, drop, replicate, take-append-drop, length-drop, length-replicate, length-take}
+use lib.ListN.{length, getD, take, drop, replicate, take-append-drop, length-drop, length-replicate, length-take}
 use Rattle.model.specs.Task.{Task, blockCount}
-use Rattle.model.specs.Regions.{regionFits, regionCost, lines, cost, FirstBest, NoPlacementFits}
+use Rattle.model.specs.Regions.{lines, cost, FirstBest, NoPlacementFits}
 use Rattle.model.specs.Answers.{pricing}
 use Rattle.model.specs.Planning.{planFor, noPlan, Planned}
 use Rattle.model.specs.declared.Refusal.the-variants.{NoPlacement}
 use Rattle.model.specs.declared.Verdict.the-variants.{Accepted, Refused}
 use Rattle.model.proofs.Verdicts.{never-both}
 use Rattle.model.proofs.Regions.{fits-accepted, lines-most}
-use Rattle.placement.specs.Table.{Holds, Placed}
-use Rattle.placement.specs.declared.Placement.{Placement}
+use Rattle.placement.specs.Rows.{none, Followed}
+use Rattle.placement.proofs.Optimal.{optimal, sum, tally-sum, refused}
 use Rattle.pricing.specs.Prices.{Prices}
 use Rattle.pricing.specs.declared.Price.{Price}
+use Rattle.planning.specs.Choices.{Choices}
 
 -- the first points of an array, zeros after them, and their price: the plan that follows from the list
 module _ (count : ℕ) (points : List ℕ) (few : count ≤ 63) (zeros : drop count points ≡ replicate (64 - count) 0) where
@@ -56,38 +57,54 @@ module _ (count : ℕ) (points : List ℕ) (few : count ≤ 63) (zeros : drop co
           points = points-are i;
         }
 
-module _ (t : Task) (table : List ℕ) (r : Placement) (holds : Holds table (blockCount t) (regionFits t) (regionCost t))
-    (placed : Placed table (blockCount t) r) where
-  -- no list is found: none fits
-  pub none-planned : r .found ≡ false → Planned t (Refused NoPlacement) noPlan
-  none-planned f =
-      let none : NoPlacementFits t = placed .refuses (regionFits t) (regionCost t) holds f in
+module _ (t : Task) {costs nexts sums : List ℕ} (positive : 0 < blockCount t) (most : blockCount t ≤ 64) (rows : Choices t costs nexts sums) where
+  -- no list leads from edge 0: none fits
+  pub none-planned : getD costs 0 0 ≡ none → Planned t (Refused NoPlacement) noPlan
+  none-planned e =
+      let none-fits : NoPlacementFits t = refused rows positive most e in
       record {
         answers = inr refl;
         best = λ e. absurd (never-both (sym e));
         follows = λ e. absurd (never-both (sym e));
-        none-fits = λ e. none;
+        none-fits = λ e. none-fits;
         exactly = λ e. refl;
         empty = λ e. refl;
       }
 
-  module _ (most : blockCount t ≤ 64) (f : r .found ≡ true) (price : Price) (prices : Prices t (take (r .count) (r .points)) price) where
-    best : FirstBest t (take (r .count) (r .points))
-    best = placed .first (regionFits t) (regionCost t) holds f
+  module _ (count : ℕ) (points : List ℕ) (found : getD costs 0 0 ≡ none → ⊥) (followed : Followed nexts (blockCount t) count points) where
+    pub few : count ≤ 63
+    few = omega (arith, followed .fewer)
 
-    list-accepted : pricing t (take (r .count) (r .points)) ≡ Accepted
-    list-accepted = fits-accepted t (take (r .count) (r .points)) (best .least-cost .well-formed) (best .least-cost .fits)
+    cost-found : getD costs 0 0 < none
+    cost-found = omega (arith, rows .row 0 zero-le positive .most)
 
-    pub list-lines-fit : price .lines < 65536
-    list-lines-fit = lines-fit (r .count) (r .points) (omega (arith, placed .fewer)) (placed .beyond) t list-accepted price prices
+    best : FirstBest t (take count points)
+    best = optimal rows positive (take count points) (followed .leads) cost-found
 
-    pub list-planned : Planned t Accepted (record { blocks = blockCount t; id = t .header .id; count = r .count; lines = price .lines; cost = price .cost; points = r .points })
+    list-accepted : pricing t (take count points) ≡ Accepted
+    list-accepted = fits-accepted t (take count points) (best .least-cost .well-formed) (best .least-cost .fits)
+
+    lines-small : lines t (take count points) < 2 ^ 64
+    lines-small = omega (arith, lines-most t (take count points), count-is count points few (followed .beyond))
+
+    list-prices : Prices t (take count points) (record { verdict = Accepted; lines = getD sums 0 0; cost = getD costs 0 0 })
+    list-prices =
+        record {
+          verdict = sym list-accepted;
+          lines = rw list-accepted (tally-sum rows positive (take count points) (followed .leads) cost-found ∙ mod-eq-of-lt lines-small);
+          cost = rw list-accepted (sum rows positive (take count points) (followed .leads) cost-found);
+        }
+
+    pub list-lines-fit : getD sums 0 0 < 65536
+    list-lines-fit = lines-fit count points few (followed .beyond) t list-accepted _ list-prices
+
+    pub list-planned : Planned t Accepted (record { blocks = blockCount t; id = t .header .id; count = count; lines = getD sums 0 0; cost = getD costs 0 0; points = points })
     list-planned =
         record {
           answers = inl refl;
           best = λ e. best;
-          follows = λ e. follows (r .count) (r .points) (omega (arith, placed .fewer)) (placed .beyond) t list-accepted price prices;
+          follows = λ e. follows count points few (followed .beyond) t list-accepted _ list-prices;
           none-fits = λ e. absurd (never-both e);
-          exactly = λ none. absurd (none (take (r .count) (r .points)) (best .least-cost .well-formed) (best .least-cost .fits));
+          exactly = λ none. absurd (none (take count points) (best .least-cost .well-formed) (best .least-cost .fits));
           empty = λ e. absurd (never-both e);
         }

@@ -6,11 +6,14 @@ ghost use Rattle.model.specs.Task.{blockCount};
 ghost use Rattle.model.specs.Answers.{onAccepted, pricing};
 ghost use Rattle.model.specs.Planning.{chosen, planFor, noPlan, Planned};
 ghost use Rattle.taskfile.specs.File.{IsAccepted, taskOf};
-ghost use Rattle.reuse.specs.Ready.{Ready};
+ghost use Rattle.reuse.specs.Counts.{NewLines};
+ghost use Rattle.planning.specs.Choices.{ChoiceAt, Choices};
 use model::Plan;
 use model::Refusal;
 use model::Verdict;
+use placement::Choice;
 use pricing::Price;
+use regions::CountedRegion;
 
 // A plan of a file, or the refusal.
 pub struct FilePlan {
@@ -61,27 +64,84 @@ pub fn least_plan(file: &[u8]) -> FilePlan
     requires { ⌜ IsAccepted (now file) ⌝ }
     ensures { λ r. ⌜ Planned (taskOf (now (file .entry))) (r .verdict) (r .plan) ⌝ }
 {
-    let mut sets = [0u64; 1048];
-    reuse::find_lines(file, &mut sets);
-    plan_regions(file, &sets)
+    let mut counts = [0u8; 4096];
+    reuse::count_new_lines(file, &mut counts);
+    plan_by_counts(file, &counts)
 }
 
-// The same, from the sets of all edges.
-fn plan_regions(file: &[u8], sets: &[u64; 1048]) -> FilePlan
-    requires { ⌜ Ready (now file) (now sets) ⌝ }
+// The same, from the counts of new lines: the choice at each edge, from the last to the first.
+fn plan_by_counts(file: &[u8], counts: &[u8; 4096]) -> FilePlan
+    requires { ⌜ NewLines (now file) (now counts) ⌝ }
     ensures { λ r. ⌜ Planned (taskOf (now (file .entry))) (r .verdict) (r .plan) ⌝ }
 {
-    let mut table = [placement::NONE; 4096];
-    regions::fill_table(file, sets, &mut table);
-    let placed = placement::place(&table, taskfile::block_count(file));
-    let count = placed.count;
-    let points = placed.points;
-    if !placed.found {
+    let mut costs = [0u64; 65];
+    let mut nexts = [0usize; 65];
+    let mut lines = [0u64; 65];
+    let mut a = taskfile::block_count(file);
+    while 0 < a {
+        a -= 1;
+        let choice = choose(file, counts, &costs, &lines, a);
+        costs[a] = choice.cost;
+        nexts[a] = choice.next;
+        lines[a] = choice.tally;
+    }
+    plan_along(file, &costs, &nexts, &lines)
+}
+
+// The choice at edge a, among the regions from it. The first that is above the limit ends the row: all longer ones are above it too.
+fn choose(
+    file: &[u8],
+    counts: &[u8; 4096],
+    costs: &[u64; 65],
+    lines: &[u64; 65],
+    a: usize,
+) -> Choice
+    requires { ⌜ NewLines (now file) (now counts) × (a < blockCount (taskOf (now file))) ⌝ }
+    ensures { λ r. ⌜ ChoiceAt (taskOf (now (file .entry))) (now (costs .entry)) (now (lines .entry)) a r ⌝ }
+{
+    let n = taskfile::block_count(file);
+    let header = taskfile::header(file);
+    let mut region = CountedRegion::at(a);
+    let mut choice = Choice::untried(n);
+    while region.to < n {
+        region = region.longer(file, counts);
+        let weighed = regions::weigh(header, region.time, region.lines);
+        if !weighed.fits {
+            return choice;
+        }
+        choice = choice.with(
+            costs,
+            lines,
+            n,
+            region.to,
+            weighed.cost,
+            region.lines as u64,
+        );
+    }
+    choice
+}
+
+// The plan of the list that the choices lead along.
+fn plan_along(file: &[u8], costs: &[u64; 65], nexts: &[usize; 65], lines: &[u64; 65]) -> FilePlan
+    requires { ⌜ IsAccepted (now file) × Choices (taskOf (now file)) (now costs) (now nexts) (now lines) ⌝ }
+    ensures { λ r. ⌜ Planned (taskOf (now (file .entry))) (r .verdict) (r .plan) ⌝ }
+{
+    let cost = costs[0];
+    if cost == placement::NONE {
         return refused_plan(Verdict::Refused(Refusal::NoPlacement));
     }
-    let price = pricing::price_list(file, sets, &points[..count]);
+    let list = placement::follow(nexts, taskfile::block_count(file));
+    let count = list.count;
+    let points = list.points;
+    let verdict = Verdict::Accepted;
+    let sum = lines[0];
+    let price = Price {
+        verdict,
+        lines: sum,
+        cost,
+    };
     FilePlan {
-        verdict: Verdict::Accepted,
+        verdict,
         plan: plan_of(file, count, points, price),
     }
 }

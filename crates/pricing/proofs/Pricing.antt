@@ -22,7 +22,6 @@ use Rattle.model.specs.declared.Refusal.{Refusal}
 use Rattle.model.specs.declared.Refusal.the-variants.{Argument, AboveLimit}
 use Rattle.model.specs.declared.Verdict.the-variants.{Accepted, Refused}
 use Rattle.pricing.specs.Prices.{Prices}
-use Rattle.pointlist.proofs.Points.{wrongFrom, point-rising, points-end}
 
 -- the regions of a list from region i on, which starts at edge a
 pub regionsFrom : ℕ → List ℕ → ℕ → ℕ → List Region
@@ -46,27 +45,23 @@ module _ (n : ℕ) (ps : List ℕ) where
   unfolding regionsFrom
   from-end i a h = rw (lt-leb i (length ps) h) refl
 
--- the first i regions of a well-formed list are within the limit, end at edge a, reload so many lines and cost so much
-pub record Passed (t : Task) (ps : List ℕ) (i a count paid : ℕ) : Type 0 where
+-- the edge where region i of a list starts
+abbrev pub startOf : Task → List ℕ → ℕ → ℕ
+startOf t ps i = getD (0 ∷ ps) i (blockCount t)
+
+-- the first i regions of a list are within the limit, reload so many lines and cost so much
+pub record Passed (t : Task) (ps : List ℕ) (i count paid : ℕ) : Type 0 where
   pub index : i ≤ length ps + 1
-  pub edge : i ≤ a
-  pub last : a ≤ blockCount t
-  pub inner : i ≤ length ps → a < blockCount t
-  pub rising : wrongFrom (blockCount t) ps i a ≡ Nowhere
   pub few : count ≤ i * 512
   pub small : paid ≤ i * 2 ^ 48
-  pub above : regionAbove t ps ≡ lowest (regionFits t) i (regionsFrom (blockCount t) ps i a)
-  pub all-lines : lines t ps ≡ count + total (regionLines t) (regionsFrom (blockCount t) ps i a)
-  pub all-cost : cost t ps ≡ paid + total (regionCost t) (regionsFrom (blockCount t) ps i a)
+  pub above : regionAbove t ps ≡ lowest (regionFits t) i (regionsFrom (blockCount t) ps i (startOf t ps i))
+  pub all-lines : lines t ps ≡ count + total (regionLines t) (regionsFrom (blockCount t) ps i (startOf t ps i))
+  pub all-cost : cost t ps ≡ paid + total (regionCost t) (regionsFrom (blockCount t) ps i (startOf t ps i))
 
-pub passed-none : (t : Task) (ps : List ℕ) → 0 < blockCount t → wrongPoint (blockCount t) ps ≡ Nowhere → Passed t ps 0 0 0 0
-passed-none t ps h e =
+pub passed-none : (t : Task) (ps : List ℕ) → Passed t ps 0 0 0
+passed-none t ps =
     record {
       index = omega arith;
-      edge = omega arith;
-      last = omega arith;
-      inner = λ _. h;
-      rising = e;
       few = omega arith;
       small = omega arith;
       above = rw from-first refl;
@@ -74,33 +69,19 @@ passed-none t ps h e =
       all-cost = rw (from-first, zero-add) refl;
     }
 
-module _ {t : Task} {ps : List ℕ} {i a count paid : ℕ} (w : Passed t ps i a count paid) where
-  module _ (h : i ≤ length ps) (b : ℕ) (e : b ≡ getD ps i (blockCount t)) where
-    next : regionsFrom (blockCount t) ps i a ≡ record { from = a; to = b } ∷ regionsFrom (blockCount t) ps (i + 1) b
-    next = rw e (from-next (blockCount t) ps i a h)
+module _ {t : Task} {ps : List ℕ} {i count paid : ℕ} (w : Passed t ps i count paid) where
+  module _ (h : i ≤ length ps) where
+    next : regionsFrom (blockCount t) ps i (startOf t ps i)
+        ≡ record { from = startOf t ps i; to = getD ps i (blockCount t) } ∷ regionsFrom (blockCount t) ps (i + 1) (startOf t ps (i + 1))
+    next = rw (add-one i) (rw (add-one i) at (from-next (blockCount t) ps i (startOf t ps i) h))
 
-    -- the region is not empty, and neither is the next
-    pub passed-edge : (a < b) × (b ≤ blockCount t) × (i + 1 ≤ length ps → b < blockCount t) × (wrongFrom (blockCount t) ps (i + 1) b ≡ Nowhere)
-    passed-edge =
-        rw e
-        (by-cases (decLt i (length ps))
-        (λ lt. let p = point-rising (blockCount t) ps i a (blockCount t) lt (w .rising) in (p .0, omega (arith, p .1), λ _. p .1, p .2))
-        (λ ge.
-        let end : length ps ≤ i = omega arith in
-        rw (List·getD-eq-default ps (blockCount t) end)
-        (w .inner h, omega arith, λ l. absurd (omega arith), points-end (blockCount t) ps (i + 1) (blockCount t) (omega arith))))
-
-    pub passed-more : (m x : ℕ) → regionFits t a b ≡ true → m ≡ regionLines t a b → m ≤ 512 → x ≡ regionCost t a b → x < 2 ^ 48
-        → Passed t ps (i + 1) b (count + m) (paid + x)
+    pub passed-more : (m x : ℕ) → regionFits t (startOf t ps i) (getD ps i (blockCount t)) ≡ true
+        → m ≡ regionLines t (startOf t ps i) (getD ps i (blockCount t)) → m ≤ 512
+        → x ≡ regionCost t (startOf t ps i) (getD ps i (blockCount t)) → x < 2 ^ 48 → Passed t ps (i + 1) (count + m) (paid + x)
     unfolding lowest total
     passed-more m x fit lines few cost small =
-        let edges = passed-edge in
         record {
           index = omega arith;
-          edge = omega (arith, edges .0, w .edge);
-          last = edges .1;
-          inner = edges .2;
-          rising = edges .3;
           few = omega (arith, w .few);
           small = omega (arith, w .small);
           above = w .above ∙ rw (next, add-one, fit) refl;
@@ -108,7 +89,7 @@ module _ {t : Task} {ps : List ℕ} {i a count paid : ℕ} (w : Passed t ps i a 
           all-cost = w .all-cost ∙ rw next (omega arith);
         }
 
-    pub passed-above : regionFits t a b ≡ false → regionAbove t ps ≡ At i
+    pub passed-above : regionFits t (startOf t ps i) (getD ps i (blockCount t)) ≡ false → regionAbove t ps ≡ At i
     unfolding lowest
     passed-above fit = w .above ∙ rw (next, fit) refl
 

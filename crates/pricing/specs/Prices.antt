@@ -1,9 +1,10 @@
 -- What pricing answers of a task t. Assumes nothing.
-use Prim.Native.Nat.{ℕ}
+use Prim.Native.Nat.{ℕ, _≤_}
 use mathlib.Core.Path.{_≡_}
-use mathlib.Core.List.{List}
-use Rattle.model.specs.Task.{Task}
-use Rattle.model.specs.Regions.{lines, cost}
+use mathlib.Core.List.{List, _∷_}
+use lib.ListN.{length, getD}
+use Rattle.model.specs.Task.{Task, blockCount}
+use Rattle.model.specs.Regions.{regionLines, lines, cost}
 use Rattle.model.specs.Answers.{pricing, onAccepted}
 use Rattle.pricing.specs.declared.Price.{Price}
 
@@ -12,3 +13,8 @@ pub record Prices (t : Task) (ps : List ℕ) (r : Price) : Type 0 where
   pub verdict : r .verdict ≡ pricing t ps
   pub lines : r .lines ≡ onAccepted (pricing t ps) (lines t ps) 0
   pub cost : r .cost ≡ onAccepted (pricing t ps) (cost t ps) 0
+
+-- at i stands how many lines region i of the list ps loads: from the point before it, 0 before the first, to its own point, N after the last
+pub record Loads (t : Task) (ps counts : List ℕ) : Type 0 where
+  pub long : length counts ≡ 64
+  pub loads : (i : ℕ) → i ≤ length ps → getD counts i 0 ≡ regionLines t (getD (0 ∷ ps) i (blockCount t)) (getD ps i (blockCount t))

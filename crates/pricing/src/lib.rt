@@ -1,11 +1,17 @@
 // For an accepted file: the price of a list of points.
+ghost use mathlib.Core.Bool.{_&&_};
 ghost use mathlib.Core.Path.{_≡_};
-ghost use lib.ListN.{getD};
+ghost use Prim.Native.Nat.{_≤_};
+ghost use lib.Dec.{leb};
+ghost use lib.ListN.{length, getD};
+ghost use Rattle.model.specs.Sets.{bit};
 ghost use Rattle.model.specs.Task.{blockCount};
+ghost use Rattle.model.specs.Lines.{sameBlock};
 ghost use Rattle.model.specs.Lists.{wrongPoint};
 ghost use Rattle.taskfile.specs.File.{IsAccepted, taskOf};
-ghost use Rattle.reuse.specs.Ready.{Ready};
-ghost use Rattle.pricing.specs.Prices.{Prices};
+ghost use Rattle.pricing.specs.Prices.{Prices, Loads};
+use model::Line;
+use model::Mapping;
 use model::Place;
 use model::Refusal;
 use model::Verdict;
@@ -22,52 +28,96 @@ pub fn price_of(file: &[u8], points: &[u16]) -> Price
     requires { ⌜ IsAccepted (now file) ⌝ }
     ensures { λ r. ⌜ Prices (taskOf (now (file .entry))) (now (points .entry)) r ⌝ }
 {
-    let mut sets = [0u64; 1048];
-    reuse::find_lines(file, &mut sets);
-    price_list(file, &sets, points)
-}
-
-// The same, from the sets of all edges.
-pub fn price_list(file: &[u8], sets: &[u64; 1048], points: &[u16]) -> Price
-    requires { ⌜ Ready (now file) (now sets) ⌝ }
-    ensures { λ r. ⌜ Prices (taskOf (now (file .entry))) (now (points .entry)) r ⌝ }
-{
     match pointlist::wrong_point(points, taskfile::block_count(file)) {
         Place::At(i) => no_price(Refusal::Argument(i)),
-        Place::Nowhere => price_regions(file, sets, points),
+        Place::Nowhere => {
+            let mut lines = [0u32; 64];
+            count_lines(file, points, &mut lines);
+            price_regions(file, points, &lines)
+        }
     }
 }
 
-// The price of a well-formed list.
-fn price_regions(file: &[u8], sets: &[u64; 1048], points: &[u16]) -> Price
-    requires { ⌜ Ready (now file) (now sets) × (wrongPoint (blockCount (taskOf (now file))) (now points) ≡ Place.Nowhere) ⌝ }
+// The lines of each region of a well-formed list, in one walk over the reads: what each line holds, and the block that read it last. In a region a
+// read loads its line if that is of H and holds the number since a block up to the region's start.
+pub fn count_lines(file: &[u8], points: &[u16], lines: &mut [u32; 64])
+    requires { ⌜ IsAccepted (now file) × (wrongPoint (blockCount (taskOf (now file))) (now points) ≡ Place.Nowhere) × (length (now lines) ≡ 64) ⌝ }
+    ensures { λ _. ⌜ Loads (taskOf (now (file .entry))) (now (points .entry)) (now (lines .exit)) ⌝ }
+{
+    let cache = cacheline::geometry_of(file);
+    let blocks = taskfile::block_count(file);
+    let mut evicted = [false; 512];
+    reuse::mark_evicted(&mut evicted, file, cache);
+    let mut held = [Line::Empty; 512];
+    let mut since = [0u8; 512];
+    let mut region = 0;
+    let mut from = 0;
+    let mut count = 0u32;
+    let mut i = 0;
+    while i < blocks {
+        if edge_after(points, region, blocks) == i {
+            region += 1;
+            from = i;
+            count = 0;
+        }
+        let k = i + 1;
+        let reads = taskfile::read_count(file, k);
+        let mut j = 0;
+        while j < reads {
+            let number = taskfile::read(file, k, j);
+            match cache.line_of(number) {
+                Mapping::Uncached => {}
+                Mapping::Cached(c) => {
+                    let line = held[c];
+                    count += loads(line, number, evicted[c], since[c], from);
+                    held[c] = Line::Held(number);
+                    since[c] = k as u8;
+                }
+            }
+            j += 1;
+        }
+        lines[region] = count;
+        i += 1;
+    }
+}
+
+// 1 for a read that loads its line: the line is of H, and holds the number since a block up to edge `from`.
+fn loads(line: Line, number: u32, evicted: bool, since: u8, from: usize) -> u32
+    ensures { λ r. ⌜ (r ≡ bit (evicted && sameBlock line (Line.Held number) && leb since from)) × (r ≤ 1) ⌝ }
+{
+    (evicted & reuse::holds(line, number) & (since as usize <= from)) as u32
+}
+
+// The price of a well-formed list, from the lines of its regions.
+fn price_regions(file: &[u8], points: &[u16], lines: &[u32; 64]) -> Price
+    requires { ⌜ IsAccepted (now file) × (wrongPoint (blockCount (taskOf (now file))) (now points) ≡ Place.Nowhere) × Loads (taskOf (now file)) (now points) (now lines) ⌝ }
     ensures { λ r. ⌜ Prices (taskOf (now (file .entry))) (now (points .entry)) r ⌝ }
 {
     let n = taskfile::block_count(file);
-    let mut lines = 0u64;
+    let mut total = 0u64;
     let mut cost = 0u64;
     let mut a = 0;
     let mut i = 0;
     while i <= points.len() {
         let b = edge_after(points, i, n);
-        let region = regions::region_between(file, sets, a, b);
+        let region = regions::weigh_between(file, a, b, lines[i]);
         if !region.fits {
             return no_price(Refusal::AboveLimit(i));
         }
-        lines += region.lines as u64;
+        total += lines[i] as u64;
         cost += region.cost;
         a = b;
         i += 1;
     }
     Price {
         verdict: Verdict::Accepted,
-        lines,
+        lines: total,
         cost,
     }
 }
 
 // The edge at the end of region i: a point, or n after the last.
-fn edge_after(points: &[u16], i: usize, n: usize) -> usize
+pub fn edge_after(points: &[u16], i: usize, n: usize) -> usize
     ensures { λ r. ⌜ r ≡ getD (now (points .entry)) i n ⌝ }
 {
     if i < points.len() {

@@ -1,25 +1,13 @@
 -- What the functions answer of a task t. Assumes nothing.
 use Prim.Native.Nat.{ℕ, _-_, _*_, _^_, _≤_, _<_}
 use mathlib.Core.Path.{_≡_}
-use mathlib.Core.Bool.{true, _&&_}
-use mathlib.Core.List.{List}
-use lib.ListN.{length, getD}
 use Rattle.model.specs.Task.{Task, blockCount}
-use Rattle.model.specs.Lines.{useful, accessed, evicted}
-use Rattle.model.specs.Regions.{unionAfter, timeAfter, loaded, regionLines, regionLength, regionFits, regionCost}
+use Rattle.model.specs.Regions.{timeAfter, loaded, regionLines, regionLength, regionFits, regionCost}
+use Rattle.model.specs.declared.Header.{Header}
 use Rattle.lineset.specs.Members.{members}
-use Rattle.placement.specs.Table.{none, entry, slot}
-use Rattle.regions.specs.declared.Run.{Run}
 use Rattle.regions.specs.declared.MeasuredRegion.{MeasuredRegion}
-
--- a run of basic blocks: the lines that are useful at its start and evicted, the union of the lines that its blocks read, and the sum of its times
-pub record Spans (t : Task) (run : Run) : Type 0 where
-  pub rising : run .from ≤ run .to
-  pub within : run .to ≤ blockCount t
-  pub lost : (c : ℕ) → members (run .lost) c ≡ (useful t (run .from) c && evicted t c)
-  pub lines : (c : ℕ) → members (run .lines) c ≡ unionAfter (accessed t) (run .from) (run .to - run .from) c
-  pub time : run .time ≡ timeAfter t (run .from) (run .to - run .from)
-  pub small : run .time ≤ (run .to - run .from) * 4294967295
+use Rattle.regions.specs.declared.CountedRegion.{CountedRegion}
+use Rattle.regions.specs.declared.Weighed.{Weighed}
 
 -- the region from edge a to edge b; 64 such numbers of lines or costs sum up in 64 bits
 pub record Measures (t : Task) (a b : ℕ) (r : MeasuredRegion) : Type 0 where
@@ -31,13 +19,24 @@ pub record Measures (t : Task) (a b : ℕ) (r : MeasuredRegion) : Type 0 where
   pub few : r .lines ≤ 512
   pub small : r .cost < 2 ^ 48
 
--- none stands for each region from edge a
-abbrev pub NoneFrom : ℕ → List ℕ → Type 0
-NoneFrom a table = (b : ℕ) → a < b → b ≤ 64 → getD table (slot a b) 0 ≡ none
+-- a region's lines and the sum of its times; no basic blocks are a region that loads nothing
+pub record Counted (t : Task) (r : CountedRegion) : Type 0 where
+  pub rising : r .from ≤ r .to
+  pub within : r .to ≤ blockCount t
+  pub lines : r .lines ≡ regionLines t (r .from) (r .to)
+  pub few : r .lines ≤ 512
+  pub time : r .time ≡ timeAfter t (r .from) (r .to - r .from)
+  pub small : r .time ≤ (r .to - r .from) * 4294967295
 
--- the table after against the table before: the regions from edge a to each edge up to n are set, and no other entry is changed
-pub record FilledRow (t : Task) (a n : ℕ) (before after : List ℕ) : Type 0 where
-  pub long : length after ≡ 4096
-  pub entries : (b : ℕ) → a < b → b ≤ n → getD after (slot a b) 0 ≡ entry (regionFits t a b) (regionCost t a b)
-  pub bounded : (b : ℕ) → a < b → b ≤ n → regionFits t a b ≡ true → regionCost t a b < 2 ^ 56
-  pub others : (i : ℕ) → ((b : ℕ) → a < b → b ≤ n → i ≡ slot a b → ⊥) → getD after i 0 ≡ getD before i 0
+-- the header's numbers of a task t, and the times and the lines of its region from edge a to edge b
+pub record Described (t : Task) (a b : ℕ) (header : Header) (time lines : ℕ) : Type 0 where
+  pub header-is : header ≡ t .header
+  pub time-is : time ≡ timeAfter t a (b - a)
+  pub lines-are : lines ≡ regionLines t a b
+
+-- the length, the cost and the fit of whatever region these numbers describe
+pub record Weighs (header : Header) (time lines : ℕ) (r : Weighed) : Type 0 where
+  pub length : (t : Task) (a b : ℕ) → Described t a b header time lines → r .length ≡ regionLength t a b
+  pub cost : (t : Task) (a b : ℕ) → Described t a b header time lines → r .cost ≡ regionCost t a b
+  pub fits : (t : Task) (a b : ℕ) → Described t a b header time lines → r .fits ≡ regionFits t a b
+  pub small : r .cost < 2 ^ 48

@@ -1,14 +1,13 @@
-// The regions of an accepted file: the loaded lines, the length, the cost and the fit of one, and the table of all of them for a placement.
+// The regions of an accepted file: the loaded lines, the length, the cost and the fit of one; and those of one edge, each from the one before it.
 ghost use mathlib.Core.Path.{_≡_};
-ghost use Prim.Native.Nat.{_+_, _≤_, _<_};
-ghost use lib.ListN.{length, replicate};
-ghost use Rattle.model.specs.Task.{blockCount};
-ghost use Rattle.model.specs.Regions.{regionFits, regionCost};
-ghost use Rattle.placement.specs.Table.{none, Holds};
+ghost use Prim.Native.Nat.{_+_, _-_, _*_, _^_, _≤_, _<_};
+ghost use Rattle.model.specs.Task.{Task, blockCount};
+ghost use Rattle.model.specs.Regions.{timeAfter, regionLines, regionLength, regionFits, regionCost};
 ghost use Rattle.taskfile.specs.File.{IsAccepted, taskOf};
-ghost use Rattle.reuse.specs.Ready.{Ready};
-ghost use Rattle.regions.specs.Measures.{Spans, Measures, NoneFrom, FilledRow};
+ghost use Rattle.reuse.specs.Counts.{NewLines};
+ghost use Rattle.regions.specs.Measures.{Measures, Weighs, Counted};
 use lineset::LineSet;
+use model::Header;
 
 // A region's loaded lines and their number, its length, its cost and whether it fits.
 pub struct MeasuredRegion {
@@ -19,14 +18,19 @@ pub struct MeasuredRegion {
     pub fits: bool,
 }
 
-// The basic blocks after edge `from` up to edge `to`: the lines that a preemption at `from` loses, the lines that the blocks read, and the sum of
-// their times.
-struct Run {
-    from: usize,
-    to: usize,
-    lost: LineSet,
-    lines: LineSet,
-    time: u64,
+// A region whose lines are counted and whose times are summed up, block by block.
+pub struct CountedRegion {
+    pub from: usize,
+    pub to: usize,
+    pub lines: u32,
+    pub time: u64,
+}
+
+// What follows from a region's times and lines: its length, its cost and whether it fits.
+pub struct Weighed {
+    pub length: u64,
+    pub cost: u64,
+    pub fits: bool,
 }
 
 // The region from edge a to edge b.
@@ -34,105 +38,84 @@ pub fn measure(file: &[u8], a: usize, b: usize) -> MeasuredRegion
     requires { ⌜ IsAccepted (now file) × (a < b) × (b ≤ blockCount (taskOf (now file))) ⌝ }
     ensures { λ r. ⌜ Measures (taskOf (now (file .entry))) a b r ⌝ }
 {
-    let mut sets = [0u64; 1048];
-    reuse::find_lines(file, &mut sets);
-    region_between(file, &sets, a, b)
-}
-
-// The same, from the sets of all edges.
-pub fn region_between(file: &[u8], sets: &[u64; 1048], a: usize, b: usize) -> MeasuredRegion
-    requires { ⌜ Ready (now file) (now sets) × (a < b) × (b ≤ blockCount (taskOf (now file))) ⌝ }
-    ensures { λ r. ⌜ Measures (taskOf (now (file .entry))) a b r ⌝ }
-{
-    let mut run = start(file, sets, a);
-    while run.to < b {
-        run = longer(file, sets, run);
-    }
-    region_of(file, run)
-}
-
-// The entries of all regions, for a placement; the table is lent with NONE everywhere.
-pub fn fill_table(file: &[u8], sets: &[u64; 1048], table: &mut [u64; 4096])
-    requires { ⌜ Ready (now file) (now sets) × (now table ≡ replicate 4096 none) ⌝ }
-    ensures { λ _. ⌜ length (now (table .exit)) ≡ 4096 ⌝ }
-    ensures { λ _. ⌜ Holds (now (table .exit)) (blockCount (taskOf (now (file .entry)))) (regionFits (taskOf (now (file .entry)))) (regionCost (taskOf (now (file .entry)))) ⌝ }
-{
-    let n = taskfile::block_count(file);
-    let mut a = 0;
-    while a < n {
-        fill_row(file, sets, a, table);
-        a += 1;
-    }
-}
-
-// The entries of the regions from edge a; the table is else as it was. The first region above the limit ends the row: all longer ones
-// are above it too, and NONE stands for them.
-fn fill_row(file: &[u8], sets: &[u64; 1048], a: usize, table: &mut [u64; 4096])
-    requires { ⌜ Ready (now file) (now sets) × (a < blockCount (taskOf (now file))) × (length (now table) ≡ 4096) × NoneFrom a (now table) ⌝ }
-    ensures { λ _. ⌜ FilledRow (taskOf (now (file .entry))) a (blockCount (taskOf (now (file .entry)))) (now (table .entry)) (now (table .exit)) ⌝ }
-{
-    let n = taskfile::block_count(file);
-    let mut run = start(file, sets, a);
-    while run.to < n {
-        let at = a * 64 + run.to;
-        run = longer(file, sets, run);
-        let region = region_of(file, run);
-        if !region.fits {
-            return;
-        }
-        table[at] = region.cost;
-    }
-}
-
-// No basic blocks, at edge a.
-fn start(file: &[u8], sets: &[u64; 1048], a: usize) -> Run
-    requires { ⌜ Ready (now file) (now sets) × (a ≤ blockCount (taskOf (now file))) ⌝ }
-    ensures { λ r. ⌜ Spans (taskOf (now (file .entry))) r × (r .from ≡ a) × (r .to ≡ a) ⌝ }
-{
-    let lost = edgesets::lines_at(sets, a).common(edgesets::lines_at(sets, reuse::EVICTED));
-    Run {
-        from: a,
-        to: a,
-        lost,
-        lines: LineSet::empty(),
-        time: 0,
-    }
-}
-
-// One basic block more.
-fn longer(file: &[u8], sets: &[u64; 1048], run: Run) -> Run
-    requires { ⌜ Ready (now file) (now sets) × Spans (taskOf (now file)) run × (run .to < blockCount (taskOf (now file))) ⌝ }
-    ensures { λ r. ⌜ Spans (taskOf (now (file .entry))) r × (r .from ≡ run .from) × (r .to ≡ run .to + 1) ⌝ }
-{
-    let to = run.to;
-    let next = to + 1;
-    let lost = run.lost;
-    let lines = run.lines
-        .union(edgesets::lines_at(sets, reuse::ACCESSED + next));
-    let before = run.time;
-    let time = before + taskfile::time(file, next) as u64;
-    Run {
-        from: run.from,
-        to: next,
-        lost,
-        lines,
-        time,
-    }
-}
-
-// The region of a run of basic blocks.
-fn region_of(file: &[u8], run: Run) -> MeasuredRegion
-    requires { ⌜ IsAccepted (now file) × Spans (taskOf (now file)) run ⌝ }
-    ensures { λ r. ⌜ Measures (taskOf (now (file .entry))) (run .from) (run .to) r ⌝ }
-{
-    let loaded = run.lost.common(run.lines);
+    let between = reuse::lines_between(file, a, b);
+    let lost = between.useful.common(reuse::evicted_lines(file));
+    let loaded = lost.common(between.accessed);
     let lines = loaded.size();
-    let header = taskfile::header(file);
-    let cost = header.reload as u64 * lines as u64;
-    let length = run.time + cost;
+    let weighed = weigh_between(file, a, b, lines);
     MeasuredRegion {
         loaded,
         lines,
+        length: weighed.length,
+        cost: weighed.cost,
+        fits: weighed.fits,
+    }
+}
+
+// The length, the cost and the fit of the region from edge a to edge b, which loads so many lines.
+pub fn weigh_between(file: &[u8], a: usize, b: usize, lines: u32) -> Weighed
+    requires { ⌜ IsAccepted (now file) × (a ≤ b) × (b ≤ blockCount (taskOf (now file))) × (lines ≡ regionLines (taskOf (now file)) a b) ⌝ }
+    ensures { λ r. ⌜ (r .length ≡ regionLength (taskOf (now (file .entry))) a b) × (r .cost ≡ regionCost (taskOf (now (file .entry))) a b) × (r .fits ≡ regionFits (taskOf (now (file .entry))) a b) × (r .cost < 2 ^ 48) ⌝ }
+{
+    weigh(taskfile::header(file), time_between(file, a, b), lines)
+}
+
+// The sum of the times of blocks a + 1 to b.
+fn time_between(file: &[u8], a: usize, b: usize) -> u64
+    requires { ⌜ IsAccepted (now file) × (a ≤ b) × (b ≤ blockCount (taskOf (now file))) ⌝ }
+    ensures { λ r. ⌜ (r ≡ timeAfter (taskOf (now (file .entry))) a (b - a)) × (r ≤ (b - a) * 4294967295) ⌝ }
+{
+    let mut time = 0u64;
+    let mut i = a;
+    while i < b {
+        i += 1;
+        time += taskfile::time(file, i) as u64;
+    }
+    time
+}
+
+impl CountedRegion {
+    // No basic blocks, at edge a.
+    pub fn at(a: usize) -> Self
+        ensures { λ r. ⌜ ((t : Task) → a ≤ blockCount t → Counted t r) × (r .from ≡ a) × (r .to ≡ a) ⌝ }
+    {
+        CountedRegion {
+            from: a,
+            to: a,
+            lines: 0,
+            time: 0,
+        }
+    }
+
+    // One basic block more, with its time and the lines that the region loads first in it.
+    pub fn longer(self, file: &[u8], counts: &[u8; 4096]) -> Self
+        requires { ⌜ NewLines (now file) (now counts) × Counted (taskOf (now file)) self × (self .to < blockCount (taskOf (now file))) ⌝ }
+        ensures { λ r. ⌜ Counted (taskOf (now (file .entry))) r × (r .from ≡ self .from) × (r .to ≡ self .to + 1) ⌝ }
+    {
+        let from = self.from;
+        let to = self.to;
+        let next = to + 1;
+        let new = counts[64 * to + from];
+        let lines = self.lines + new as u32;
+        let before = self.time;
+        let time = before + taskfile::time(file, next) as u64;
+        CountedRegion {
+            from,
+            to: next,
+            lines,
+            time,
+        }
+    }
+}
+
+// The length, the cost and the fit of a region of these times and lines.
+pub fn weigh(header: Header, time: u64, lines: u32) -> Weighed
+    requires { ⌜ (time ≤ 64 * 4294967295) × (lines ≤ 512) ⌝ }
+    ensures { λ r. ⌜ Weighs header time lines r ⌝ }
+{
+    let cost = header.reload as u64 * lines as u64;
+    let length = time + cost;
+    Weighed {
         length,
         cost,
         fits: length <= header.limit as u64,

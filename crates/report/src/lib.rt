@@ -1,33 +1,44 @@
 // The lines that `plan` and `price` print of a list of points.
+ghost use mathlib.Core.Path.{_≡_};
+ghost use Rattle.model.specs.Task.{blockCount};
+ghost use Rattle.model.specs.Lists.{wrongPoint};
+ghost use Rattle.taskfile.specs.File.{IsAccepted, taskOf};
+use model::Place;
 
 // The region from edge a to edge b.
-fn print_region(file: &[u8], a: usize, b: usize) {
+fn print_region(a: usize, b: usize, length: u64) {
     desk::print_field(b"region ", a as u64);
     desk::print_field(b" ", b as u64);
-    desk::print_field(b" length ", planner::region(file, a, b).length);
+    desk::print_field(b" length ", length);
     desk::end_line();
 }
 
-// The regions that points cut a task of n blocks into.
-fn print_regions(file: &[u8], points: &[u16], n: usize) {
+// The regions that points cut an accepted file's task into.
+fn print_regions(file: &[u8], points: &[u16])
+    requires { ⌜ IsAccepted (now file) × (wrongPoint (blockCount (taskOf (now file))) (now points) ≡ Place.Nowhere) ⌝ }
+{
+    let n = taskfile::block_count(file);
+    let mut lines = [0u32; 64];
+    pricing::count_lines(file, points, &mut lines);
     let mut a = 0;
     let mut i = 0;
-    while i < points.len() {
-        let b = points[i] as usize;
-        print_region(file, a, b);
+    while i <= points.len() {
+        let b = pricing::edge_after(points, i, n);
+        print_region(a, b, regions::weigh_between(file, a, b, lines[i]).length);
         a = b;
         i += 1;
     }
-    print_region(file, a, n);
 }
 
-// A list of points of a task of n blocks: the list's lines and cost, and each of its regions.
-pub fn print_list(file: &[u8], id: u32, n: usize, points: &[u16], lines: u64, cost: u64) {
+// A well-formed list of points of an accepted file: the list's lines and cost, and each of its regions.
+pub fn print_list(file: &[u8], id: u32, n: usize, points: &[u16], lines: u64, cost: u64)
+    requires { ⌜ IsAccepted (now file) × (wrongPoint (blockCount (taskOf (now file))) (now points) ≡ Place.Nowhere) ⌝ }
+{
     desk::print_field(b"task ", id as u64);
     desk::print_field(b" blocks ", n as u64);
     desk::print_field(b" points ", points.len() as u64);
     desk::print_field(b" lines ", lines);
     desk::print_field(b" cost ", cost);
     desk::end_line();
-    print_regions(file, points, n);
+    print_regions(file, points);
 }

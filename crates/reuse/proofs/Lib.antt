@@ -1,5 +1,6 @@
-pub mod Walk
-pub mod Steps
 pub mod Looked
-pub mod States
 pub mod Below
+pub mod Marks
+pub mod FirstReads
+pub mod Rows
+pub mod Counting

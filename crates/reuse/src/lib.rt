@@ -1,28 +1,25 @@
-// For an accepted file: the next read of a line, the lines that are useful at each edge, those that each block reads, and those that the
-// preempters evict.
-ghost use mathlib.Core.Bool.{false, _&&_, _||_, xor};
+// For an accepted file: the next read of a line, the lines that are useful at each edge, those that each block reads, those that the
+// preempters evict, and how many lines each region loads first in each of its blocks.
+ghost use mathlib.Core.Bool.{false, not, cond, _&&_, _||_};
 ghost use mathlib.Core.Path.{_≡_};
-ghost use Prim.Native.Nat.{ℕ, _+_, _<_, _≤_};
-ghost use lib.Dec.{eqb, leb, ltb};
-ghost use lib.ListN.{length, getD, replicate};
+ghost use Prim.Native.Nat.{ℕ, _+_, _-_, _*_, _<_, _≤_};
+ghost use lib.Dec.{eqb, ltb};
+ghost use lib.ListN.{length, getD, take, drop, replicate};
+ghost use Rattle.model.specs.Sets.{bit};
 ghost use Rattle.model.specs.Task.{blockCount};
-ghost use Rattle.model.specs.Lines.{isLine, onLine, firstRead, lookedAt, anyRead, sameBlock, stateAfter, nextRead, readsLookedAt, asNext, evicted};
+ghost use Rattle.model.specs.Lines.{isLine, onLine, firstRead, lookedAt, anyRead, sameBlock, readsOf, stateAfter, nextRead, readsLookedAt, asNext, accessed, evicted};
 ghost use Rattle.model.specs.Lines as Lines;
+ghost use Rattle.model.specs.Regions.{unionAfter};
 ghost use Rattle.lineset.specs.Members.{members};
 ghost use Rattle.taskfile.specs.File.{IsAccepted, counts, taskOf, entryReads};
 ghost use Rattle.cacheline.specs.Geometries.{GeometryOf, WithinCache};
-ghost use Rattle.edgesets.specs.Edges.{linesAt, toggledAt};
-ghost use Rattle.reuse.specs.Ready.{Ready, Collected};
+ghost use Rattle.reuse.specs.Counts.{NewLines, Rereads, rowSum};
+ghost use Rattle.reuse.specs.FirstReads.{firstIn, Noted};
 use cacheline::Geometry;
 use lineset::LineSet;
 use model::Line;
 use model::Mapping;
 use model::Next;
-
-// Set k of the array is U(k), set ACCESSED + k is T(k), and set EVICTED is H.
-pub const ACCESSED: usize = 65;
-
-pub const EVICTED: usize = 130;
 
 // What a search for the next read of a line finds, and how many reads it looked at.
 pub struct Search {
@@ -30,14 +27,10 @@ pub struct Search {
     pub looked: usize,
 }
 
-// Finds the sets of all edges; the array is lent with zeros everywhere.
-pub fn find_lines(file: &[u8], sets: &mut [u64; 1048])
-    requires { ⌜ IsAccepted (now file) × (now sets ≡ replicate 1048 0) ⌝ }
-    ensures { λ _. ⌜ Ready (now (file .entry)) (now (sets .exit)) ⌝ }
-{
-    walk_reads(file, sets);
-    edgesets::settle(sets);
-    edgesets::put(sets, EVICTED, evicted_lines(file));
+// U(a), and the union of T(a + 1) to T(b).
+pub struct Between {
+    pub useful: LineSet,
+    pub accessed: LineSet,
 }
 
 // The next read of line c after block k.
@@ -118,6 +111,119 @@ pub fn useful_lines(file: &[u8], k: usize) -> LineSet
     lines
 }
 
+// U(a), and the union of T(a + 1) to T(b): what each line holds after block a, and what is read on it first behind that edge.
+pub fn lines_between(file: &[u8], a: usize, b: usize) -> Between
+    requires { ⌜ IsAccepted (now file) × (a ≤ b) × (b ≤ blockCount (taskOf (now file))) ⌝ }
+    ensures { λ r. ⌜ ((c : ℕ) → members (r .useful) c ≡ Lines.useful (taskOf (now (file .entry))) a c) ⌝ }
+    ensures { λ r. ⌜ ((c : ℕ) → members (r .accessed) c ≡ unionAfter (accessed (taskOf (now (file .entry)))) a (b - a) c) ⌝ }
+{
+    let cache = cacheline::geometry_of(file);
+    let held = held_after(file, cache, a);
+    let mut read = [false; 512];
+    let mut first = [0u32; 512];
+    let accessed = first_lines(&mut read, &mut first, file, cache, a, b);
+    first_lines(
+        &mut read,
+        &mut first,
+        file,
+        cache,
+        b,
+        taskfile::block_count(file),
+    );
+    Between {
+        useful: reread_lines(held, &read, &first, cache.line_count as usize),
+        accessed,
+    }
+}
+
+// The lines that blocks a + 1 to b read and that were not read before, block after block.
+fn first_lines(
+    read: &mut [bool; 512],
+    first: &mut [u32; 512],
+    file: &[u8],
+    cache: Geometry,
+    a: usize,
+    b: usize,
+) -> LineSet
+    requires { ⌜ (length (now read) ≡ 512) × (length (now first) ≡ 512) ⌝ }
+    requires { ⌜ IsAccepted (now file) × (a ≤ b) × (b ≤ blockCount (taskOf (now file))) × GeometryOf (taskOf (now file)) cache ⌝ }
+    ensures { λ r. ⌜ Noted (taskOf (now (file .entry))) (readsOf (take (b - a) (drop a (taskOf (now (file .entry)) .blocks)))) (now (read .entry)) (now (first .entry)) (now (read .exit)) (now (first .exit)) (members r) ⌝ }
+{
+    let mut lines = LineSet::empty();
+    let mut k = a;
+    while k < b {
+        k += 1;
+        lines = lines.union(first_lines_in(read, first, file, cache, k));
+    }
+    lines
+}
+
+// The lines that block k reads and that were not read before, each added once.
+fn first_lines_in(
+    read: &mut [bool; 512],
+    first: &mut [u32; 512],
+    file: &[u8],
+    cache: Geometry,
+    k: usize,
+) -> LineSet
+    requires { ⌜ (length (now read) ≡ 512) × (length (now first) ≡ 512) ⌝ }
+    requires { ⌜ IsAccepted (now file) × (1 ≤ k) × (k ≤ counts (now file) .blocks + counts (now file) .preempters) ⌝ }
+    requires { ⌜ GeometryOf (taskOf (now file)) cache ⌝ }
+    ensures { λ r. ⌜ Noted (taskOf (now (file .entry))) (entryReads (now (file .entry)) k) (now (read .entry)) (now (first .entry)) (now (read .exit)) (now (first .exit)) (members r) ⌝ }
+{
+    let reads = taskfile::read_count(file, k);
+    let mut lines = LineSet::empty();
+    let mut j = 0;
+    while j < reads {
+        let number = taskfile::read(file, k, j);
+        lines = note(read, first, lines, cache.line_of(number), number);
+        j += 1;
+    }
+    lines
+}
+
+// Notes the read of a number on a line, if there is one and it was not read before, and adds the line to the set.
+fn note(
+    read: &mut [bool; 512],
+    first: &mut [u32; 512],
+    lines: LineSet,
+    mapping: Mapping,
+    number: u32,
+) -> LineSet
+    requires { ⌜ (length (now read) ≡ 512) × (length (now first) ≡ 512) × WithinCache mapping ⌝ }
+    ensures { λ _. ⌜ (length (now (read .exit)) ≡ 512) × (length (now (first .exit)) ≡ 512) ⌝ }
+    ensures { λ _. ⌜ ((c : ℕ) → getD (now (read .exit)) c false ≡ (getD (now (read .entry)) c false || isLine c mapping)) ⌝ }
+    ensures { λ _. ⌜ ((c : ℕ) → getD (now (first .exit)) c 0 ≡ cond (not (getD (now (read .entry)) c false) && isLine c mapping) number (getD (now (first .entry)) c 0)) ⌝ }
+    ensures { λ r. ⌜ ((c : ℕ) → members r c ≡ (members lines c || not (getD (now (read .entry)) c false) && isLine c mapping)) ⌝ }
+{
+    match mapping {
+        Mapping::Uncached => lines,
+        Mapping::Cached(c) => {
+            if read[c] {
+                return lines;
+            }
+            read[c] = true;
+            first[c] = number;
+            lines.with(c)
+        }
+    }
+}
+
+// The lines below count that hold the number that was read on them first.
+fn reread_lines(held: [Line; 512], read: &[bool; 512], first: &[u32; 512], count: usize) -> LineSet
+    requires { ⌜ (length held ≡ 512) × (length (now read) ≡ 512) × (length (now first) ≡ 512) × (count ≤ 512) ⌝ }
+    ensures { λ r. ⌜ ((c : ℕ) → members r c ≡ (ltb c count && sameBlock (getD held c Line.Empty) (firstIn (now (read .entry)) (now (first .entry)) c))) ⌝ }
+{
+    let mut lines = LineSet::empty();
+    let mut c = 0;
+    while c < count {
+        let line = held[c];
+        lines = with_marked(lines, c, read[c] & holds(line, first[c]));
+        c += 1;
+    }
+    lines
+}
+
 // What each line holds after basic blocks 1 to k.
 fn held_after(file: &[u8], cache: Geometry, k: usize) -> [Line; 512]
     requires { ⌜ IsAccepted (now file) × (k ≤ blockCount (taskOf (now file))) × GeometryOf (taskOf (now file)) cache ⌝ }
@@ -169,7 +275,7 @@ fn is_next(file: &[u8], cache: Geometry, k: usize, c: usize, number: u32) -> boo
 }
 
 // H: the lines that the preempters evict. They are marked first, and each is then added to the set once.
-fn evicted_lines(file: &[u8]) -> LineSet
+pub fn evicted_lines(file: &[u8]) -> LineSet
     requires { ⌜ IsAccepted (now file) ⌝ }
     ensures { λ r. ⌜ ((c : ℕ) → members r c ≡ evicted (taskOf (now (file .entry))) c) ⌝ }
 {
@@ -245,30 +351,44 @@ fn with_marked(lines: LineSet, c: usize, marked: bool) -> LineSet
     if marked { lines.with(c) } else { lines }
 }
 
-// U(k) as toggles, and T(k), in one walk over the reads: what each line holds, and the block that read it last.
-fn walk_reads(file: &[u8], sets: &mut [u64; 1048])
-    requires { ⌜ IsAccepted (now file) × (now sets ≡ replicate 1048 0) ⌝ }
-    ensures { λ _. ⌜ Collected (now (file .entry)) (now (sets .exit)) ⌝ }
+// Counts the lines that each region loads first in each of its blocks; the array is lent with zeros everywhere.
+pub fn count_new_lines(file: &[u8], counts: &mut [u8; 4096])
+    requires { ⌜ IsAccepted (now file) × (now counts ≡ replicate 4096 0) ⌝ }
+    ensures { λ _. ⌜ NewLines (now (file .entry)) (now (counts .exit)) ⌝ }
 {
     let cache = cacheline::geometry_of(file);
+    let mut evicted = [false; 512];
+    mark_evicted(&mut evicted, file, cache);
+    count_rereads(file, cache, &evicted, counts);
+    sum_rows(counts, taskfile::block_count(file));
+}
+
+// One walk over the reads: what each line holds, and the block, from 0, that read it last. A read of the number that a line of H holds is
+// counted in the row of its own block, at the column of that block.
+fn count_rereads(file: &[u8], cache: Geometry, evicted: &[bool; 512], counts: &mut [u8; 4096])
+    requires { ⌜ IsAccepted (now file) × GeometryOf (taskOf (now file)) cache ⌝ }
+    requires { ⌜ (length (now evicted) ≡ 512) × ((d : ℕ) → getD (now evicted) d false ≡ Lines.evicted (taskOf (now file)) d) ⌝ }
+    requires { ⌜ now counts ≡ replicate 4096 0 ⌝ }
+    ensures { λ _. ⌜ Rereads (now (file .entry)) (now (counts .exit)) ⌝ }
+{
     let blocks = taskfile::block_count(file);
     let mut held = [Line::Empty; 512];
-    let mut since = [0usize; 512];
+    let mut since = [0u8; 512];
     let mut i = 0;
     while i < blocks {
-        let k = i + 1;
-        let reads = taskfile::read_count(file, k);
+        let b = i + 1;
+        let reads = taskfile::read_count(file, b);
         let mut j = 0;
         while j < reads {
-            let number = taskfile::read(file, k, j);
+            let number = taskfile::read(file, b, j);
             match cache.line_of(number) {
                 Mapping::Uncached => {}
                 Mapping::Cached(c) => {
                     let line = held[c];
-                    add_reread(sets, line, number, c, since[c], k);
-                    edgesets::add_line(sets, c, ACCESSED + k);
+                    let at = 64 * i + since[c] as usize;
+                    counts[at] += reread(line, number, evicted[c]);
                     held[c] = Line::Held(number);
-                    since[c] = k;
+                    since[c] = i as u8;
                 }
             }
             j += 1;
@@ -277,16 +397,42 @@ fn walk_reads(file: &[u8], sets: &mut [u64; 1048])
     }
 }
 
-// Toggles line c at the edges from `from` up to `to` if it holds the number that is read.
-fn add_reread(sets: &mut [u64; 1048], line: Line, number: u32, c: usize, from: usize, to: usize)
-    requires { ⌜ (length (now sets) ≡ 1048) × (c < 512) × (from ≤ to) × (to < 65) ⌝ }
-    ensures { λ _. ⌜ length (now (sets .exit)) ≡ 1048 ⌝ }
-    ensures { λ _. ⌜ ((k d : ℕ) → toggledAt (now (sets .exit)) k d ≡ xor (toggledAt (now (sets .entry)) k d) (sameBlock line (Line.Held number) && eqb d c && (leb from k && ltb k to))) ⌝ }
-    ensures { λ _. ⌜ ((k d : ℕ) → 65 ≤ k → linesAt (now (sets .exit)) k d ≡ linesAt (now (sets .entry)) k d) ⌝ }
+// 1 if the line is of H and holds the number that is read, otherwise 0.
+fn reread(line: Line, number: u32, evicted: bool) -> u8
+    ensures { λ r. ⌜ (r ≡ bit (evicted && sameBlock line (Line.Held number))) × (r ≤ 1) ⌝ }
 {
-    let again = holds(line, number);
-    edgesets::toggle(sets, again, c, from);
-    edgesets::toggle(sets, again, c, to);
+    (evicted & holds(line, number)) as u8
+}
+
+// Puts at each column of a row, up to the row's own number, the sum of those before it.
+fn sum_rows(counts: &mut [u8; 4096], rows: usize)
+    requires { ⌜ (length (now counts) ≡ 4096) × (rows ≤ 64) × ((i : ℕ) → i < rows → rowSum (now counts) i 64 ≤ 124) ⌝ }
+    ensures { λ _. ⌜ length (now (counts .exit)) ≡ 4096 ⌝ }
+    ensures { λ _. ⌜ ((a i : ℕ) → a ≤ i → i < rows → getD (now (counts .exit)) (64 * i + a) 0 ≡ rowSum (now (counts .entry)) i a) ⌝ }
+{
+    let mut i = 0;
+    while i < rows {
+        sum_row(counts, i);
+        i += 1;
+    }
+}
+
+// The same for row i.
+fn sum_row(counts: &mut [u8; 4096], i: usize)
+    requires { ⌜ (length (now counts) ≡ 4096) × (i < 64) × (rowSum (now counts) i 64 ≤ 124) ⌝ }
+    ensures { λ _. ⌜ length (now (counts .exit)) ≡ 4096 ⌝ }
+    ensures { λ _. ⌜ ((a : ℕ) → a ≤ i → getD (now (counts .exit)) (64 * i + a) 0 ≡ rowSum (now (counts .entry)) i a) ⌝ }
+    ensures { λ _. ⌜ ((r a : ℕ) → (r ≡ i → ⊥) → a < 64 → getD (now (counts .exit)) (64 * r + a) 0 ≡ getD (now (counts .entry)) (64 * r + a) 0) ⌝ }
+{
+    let mut sum = 0u8;
+    let mut a = 0;
+    while a <= i {
+        let at = 64 * i + a;
+        let here = counts[at];
+        counts[at] = sum;
+        sum += here;
+        a += 1;
+    }
 }
 
 // Whether a line holds this memory block.

@@ -1,4 +1,5 @@
-//! The C calls of the libraries `firmware` and `probe`, on slices.
+//! The C calls of the libraries `firmware` and `probe`, on slices. With `old` their names have that in front: bench/compare links
+//! older libraries so, beside those of today.
 
 /// A refusal's number and its place.
 #[derive(Clone, Copy, PartialEq, Eq, Debug)]
@@ -11,12 +12,14 @@ pub type Returned = Result<(), Refusal>;
 
 mod linked {
     extern "C" {
+        #[cfg_attr(old, link_name = "old_preempt_plan")]
         pub fn preempt_plan(
             file: *const u8,
             file_len: usize,
             block: *mut u8,
             block_len: usize,
         ) -> u32;
+        #[cfg_attr(old, link_name = "old_preempt_price")]
         pub fn preempt_price(
             file: *const u8,
             file_len: usize,
@@ -25,6 +28,7 @@ mod linked {
             block: *mut u8,
             block_len: usize,
         ) -> u32;
+        #[cfg_attr(old, link_name = "old_probe_useful")]
         pub fn probe_useful(
             file: *const u8,
             file_len: usize,
@@ -32,6 +36,7 @@ mod linked {
             out: *mut u8,
             out_len: usize,
         ) -> u32;
+        #[cfg_attr(old, link_name = "old_probe_next_read")]
         pub fn probe_next_read(
             file: *const u8,
             file_len: usize,
@@ -40,6 +45,7 @@ mod linked {
             out: *mut u8,
             out_len: usize,
         ) -> u32;
+        #[cfg_attr(old, link_name = "old_probe_region")]
         pub fn probe_region(
             file: *const u8,
             file_len: usize,
@@ -48,6 +54,7 @@ mod linked {
             out: *mut u8,
             out_len: usize,
         ) -> u32;
+        #[cfg_attr(old, link_name = "old_probe_replay")]
         pub fn probe_replay(
             file: *const u8,
             file_len: usize,
@@ -56,6 +63,7 @@ mod linked {
             out: *mut u8,
             out_len: usize,
         ) -> u32;
+        #[cfg_attr(old, link_name = "old_probe_generate")]
         pub fn probe_generate(
             seed: u32,
             n: u32,
@@ -66,6 +74,7 @@ mod linked {
             out: *mut u8,
             out_len: usize,
         ) -> u32;
+        #[cfg_attr(old, link_name = "old_probe_join")]
         pub fn probe_join(
             first: *const u8,
             first_len: usize,

@@ -76,14 +76,13 @@ element-copy-out-at-2 c = search needs
 loop-less : tie.Need-loop-less Inv-loop μ-loop
 loop-less c =
     let a = c .before .before .loop .at in
-    let lt = c .before .loop-test .taken in
-    omega (arith, c .before .before .before .before .pre .2 .above a lt)
+    omega (arith, c .before .before .before .before .pre .2 .above a (omega arith))
 
 loop-again : tie.Need-loop-again Inv-loop μ-loop
-loop-again c = more (c .before .before .before .before .pre .2) (c .before .before .before .before .pre .1) (c .before .before .loop .inv) (c .before .loop-test .taken)
+loop-again c = more (c .before .before .before .before .pre .2) (c .before .before .before .before .pre .1) (c .before .before .loop .inv) (omega arith)
 
 returns : tie.Need-returns Inv-loop μ-loop
-returns c = end (c .before .loop .inv) (c .loop-test .left)
+returns c = end (c .before .loop .inv) (omega arith)
 
 pub follow-spec : {M : Type 1} → statement M
 follow-spec =

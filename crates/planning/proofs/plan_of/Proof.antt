@@ -1,7 +1,8 @@
 -- `planning::plan_of` meets its contract: N and id are read from the file.
 -- Assumes nothing.
-use mathlib.Core.Path.{refl}
+use mathlib.Core.Path.{ap}
 use borrow.Author.Needs.{needs}
+use Rattle.model.specs.declared.Header.{Header}
 use Rattle.planning.proofs.plan_of.Statement.{statement}
 use Rattle.planning.proofs.plan_of.Tie as tie
 
@@ -21,7 +22,7 @@ cast-lines : tie.Need-cast-lines
 cast-lines c = search needs
 
 returns : tie.Need-returns
-returns c = rw (c .before .before .block-count .ensures .0, c .before .header .ensures .0) refl
+returns c = cc (c .before .before .block-count .ensures .0, ap (λ (h : Header). h .id) (c .before .header .ensures .0))
 
 pub plan-of-spec : {M : Type 1} → statement M
 plan-of-spec =

@@ -1,6 +1,13 @@
--- `price::print_answer` is safe: a file whose list is priced was accepted. Assumes nothing.
-use mathlib.Core.Path.{sym, _∙_}
+-- `price::print_answer` is safe: a file whose list is priced was accepted, and the list is well formed. Assumes nothing.
+use mathlib.Core.Path.{_≡_, sym, _∙_}
+use Rattle.model.specs.Task.{blockCount}
+use Rattle.model.specs.Lists.{steps, rightPoint}
+use Rattle.model.specs.Answers.{pricing}
+use Rattle.model.specs.declared.Verdict.the-variants.{Accepted}
+use Rattle.model.proofs.Lists.{lowest-none}
+use Rattle.model.proofs.Regions.{accepted-well-formed}
 use Rattle.model.proofs.Verdicts.{both-accepted}
+use Rattle.taskfile.specs.File.{verdict, taskOf}
 use Rattle.planner.specs.Calls.{priceVerdict}
 use borrow.Author.Needs.{needs}
 use Rattle.price.proofs.print_answer.Statement.{statement}
@@ -15,15 +22,24 @@ price-requires c κs = search needs
 enum-told : tie.Need-enum-told
 enum-told c = search needs
 
-header-requires : tie.Need-header-requires
+both : (c : tie.After-enum-told)
+    → let args = c .before .before .before .before .before .before .args in
+    (verdict (args .file .now) ≡ Accepted) × (pricing (taskOf (args .file .now)) (c .before .before .before .first .result .now) ≡ Accepted)
 unfolding priceVerdict
-header-requires c κs = both-accepted _ _ (sym (c .before .before .price .ensures .0) ∙ c .enum-told .given .1) .0
+both c = both-accepted _ _ (sym (c .before .before .price .ensures .0) ∙ c .enum-told .given .1)
+
+header-requires : tie.Need-header-requires
+header-requires c κs = both c .0
 
 block-count-requires : tie.Need-block-count-requires
 block-count-requires c κs = header-requires (c .before) κs
 
 print-list-requires : tie.Need-print-list-requires
-print-list-requires c κs = search needs
+print-list-requires c κs =
+    let t = taskOf (c .before .before .before .before .before .before .before .before .args .file .now) in
+    let ps = c .before .before .before .before .before .first .result .now in
+    let accepted = both (c .before .before) in
+    (accepted .0, lowest-none (rightPoint (blockCount t)) 0 (steps 0 ps) (accepted-well-formed t ps (accepted .1)))
 
 enum-known-verdict : tie.Need-enum-known-verdict
 enum-known-verdict c = search needs

@@ -1,8 +1,9 @@
 -- `replaying::count_misses` meets its contract. Both loops keep the walk's state after the blocks and reads passed, and the points that are left.
 -- Assumes nothing.
-use Prim.Native.Nat.{_+_, _-_, _*_, _≤_, _<_}
+use Prim.Native.Nat.{suc, _+_, _-_, _*_, _≤_, _<_}
 use mathlib.Core.Path.{_≡_, refl, sym, _∙_}
 use mathlib.Core.Logic.{⊎-elim}
+use native.Mathlib.Nat.{add-zero}
 use native.Mathlib.Omega.{arith}
 use native.Mathlib.Numerals.{add-one}
 use lib.ListN.{length, getD}
@@ -11,16 +12,17 @@ use Rattle.model.specs.Task.{blockCount}
 use Rattle.model.specs.Lines.{blockAt}
 use Rattle.model.specs.Lists.{steps, rightPoint}
 use Rattle.model.proofs.Lists.{none-lowest}
+use Rattle.model.proofs.ReadOrder.{edge, edge-suc}
 use Rattle.taskfile.specs.File.{taskOf}
 use Rattle.taskfile.proofs.Accepted as accepted-file
 use Rattle.cacheline.proofs.Below.{line-below}
-use Rattle.replaying.proofs.Steps.{AtEdge, InBlock, PointsLeft, at-start, enter, read-skip, read-more, pass-edge, at-end}
+use Rattle.replaying.proofs.Steps.{Replayed, PointsLeft, at-start, read-skip, read-more, pass-edge, at-end}
 use Rattle.replaying.proofs.count_misses.Statement.{statement}
 use Rattle.replaying.proofs.count_misses.Tie as tie
 
 abbrev Inv-loop2 : tie.InvT-loop2
 Inv-loop2 file points cache blocks evicted held₀ since₀ alone₀ preempted₀ passed i k reads last j₀ held since alone preempted j =
-    (j ≤ reads) × (alone ≤ i * 124 + j) × (preempted ≤ i * 124 + j) × InBlock (taskOf file) points evicted i j held since last alone preempted
+    (j ≤ reads) × (alone ≤ i * 124 + j) × (preempted ≤ i * 124 + j) × Replayed (taskOf file) points (edge (taskOf file) i + j) passed held since alone preempted
 
 abbrev μ-loop2 : tie.MeasureT-loop2
 μ-loop2 file points cache blocks evicted held₀ since₀ alone₀ preempted₀ passed i k reads last j₀ held since alone preempted j =
@@ -28,8 +30,8 @@ abbrev μ-loop2 : tie.MeasureT-loop2
 
 abbrev Inv-loop : tie.InvT-loop
 Inv-loop file points cache blocks evicted held₀ since₀ alone₀ preempted₀ passed₀ i₀ held since alone preempted passed i =
-    (i ≤ blocks) × (alone ≤ i * 124) × (preempted ≤ i * 124) × AtEdge (taskOf file) points evicted i held since (passed .last) alone preempted ×
-    PointsLeft (blockCount (taskOf file)) points i (passed .next)
+    (i ≤ blocks) × (alone ≤ i * 124) × (preempted ≤ i * 124) × (passed .last ≤ i) × PointsLeft (taskOf file) points i (passed .next) ×
+    Replayed (taskOf file) points (edge (taskOf file) i) passed held since alone preempted
 
 abbrev μ-loop : tie.MeasureT-loop
 μ-loop file points cache blocks evicted held₀ since₀ alone₀ preempted₀ passed₀ i₀ held since alone preempted passed i =
@@ -52,8 +54,9 @@ loop-holds c =
       omega arith,
       omega arith,
       omega arith,
-      at-start t ps (c .mark-evicted .last .0),
-      record { rising = none-lowest (rightPoint (blockCount t)) 0 (steps 0 ps) (start .pre .1); same = λ j h. refl },
+      omega arith,
+      none-lowest (rightPoint (blockCount t)) 0 (steps 0 ps) (start .pre .1),
+      at-start t ps,
     )
 
 add-k : tie.Need-add-k Inv-loop2 μ-loop2 Inv-loop μ-loop
@@ -65,7 +68,7 @@ read-count-requires c κs =
     (start .pre .0, omega arith, omega (arith, accepted-file.block-count (start .args .file .now)))
 
 loop2-holds : tie.Need-loop2-holds Inv-loop2 μ-loop2 Inv-loop μ-loop
-loop2-holds c = (omega arith, omega arith, omega arith, enter _ _ _ (omega arith) (c .before .before .loop .inv .3))
+loop2-holds c = (omega arith, omega arith, omega arith, rw add-zero (c .before .before .loop .inv .5))
 
 read-requires : tie.Need-read-requires Inv-loop2 μ-loop2 Inv-loop μ-loop
 read-requires c κs =
@@ -138,7 +141,7 @@ loop2-again c =
     let turn = c .before .before .before in
     let outer = turn .before .before .before .before .loop in
     let inner = turn .before .loop2 in
-    let marks = turn .before .before .before .before .before .mark-evicted .last .0 in
+    let marks = turn .before .before .before .before .before .mark-evicted .ensures .1 in
     let start = turn .before .before .before .before .before .before .before .before .before .before .before in
     let file = start .args .file .now in
     let t = taskOf file in
@@ -153,22 +156,23 @@ loop2-again c =
     let counted : inner .j < length (blockAt t (outer .i) .reads) = rw reads-are (omega (arith, taken, turn .before .before .read-count .ensures .0)) in
     let number-is : getD (blockAt t (outer .i) .reads) (inner .j) 0 ≡ number .result = rw reads-are (sym (number .ensures)) in
     let is = sym (line .ensures .0 t (cache .ensures)) in
+    let next : edge t (outer .i) + (inner .j + 1) ≡ suc (edge t (outer .i) + inner .j) = omega arith in
     ⊎-elim
     (λ w.
-    rw (w .2, w .3, w .4, w .5) (
+    rw (w .2, w .3, w .4, w .5, next) (
       omega (arith, taken),
       omega (arith, inner .inv .1),
       omega (arith, inner .inv .2),
-      read-skip t ps marks (number .result) counted number-is (is ∙ w .1 .given .1) (inner .inv .3),
+      read-skip t ps (number .result) inside counted number-is (outer .inv .3) (inner .inv .3) (is ∙ w .1 .given .1),
     ))
     (λ w.
     let on = w .1 .given .0 .0 in
-    rw (w .7, w .8, w .9, w .10) (
+    rw (w .7, w .8, w .9, w .10, next) (
       omega (arith, taken),
       omega (arith, inner .inv .1, w .5 .ensures .1),
       omega (arith, inner .inv .2, w .6 .ensures .1),
-      read-more t ps marks (number .result) on (outer .i + 1) _ _ counted number-is (line-below (line .result) on (w .1 .given .1) (line .ensures .1)) (is ∙ w .1 .given .1)
-          (add-one (outer .i)) (w .5 .ensures .0) (w .6 .ensures .0 ∙ rw (w .4 .ensures) refl) (inner .inv .3),
+      read-more t ps (number .result) inside counted number-is (outer .inv .3) (inner .inv .3) on (outer .i + 1) _ _ (line-below (line .result) on (w .1 .given .1) (line .ensures .1))
+          (is ∙ w .1 .given .1) (add-one (outer .i)) (w .5 .ensures .0) (w .6 .ensures .0 ∙ rw (w .4 .ensures, marks on) refl),
     ))
     (c .match .came)
 
@@ -190,17 +194,22 @@ loop-again c =
     let inner = c .before .before .loop2 in
     let counted = c .before .before .before .read-count .ensures in
     let reads-are = accepted-file.reads-at file (outer .i) (omega (arith, accepted-file.block-count file)) in
-    let done : length (blockAt t (outer .i) .reads) ≤ inner .j = rw reads-are (omega (arith, counted .0)) in
+    let done : length (blockAt t (outer .i) .reads) ≡ inner .j = rw reads-are (omega (arith, counted .0)) in
+    let inside : outer .i < blockCount t = omega arith in
+    let there : edge t (outer .i) + inner .j ≡ edge t (suc (outer .i)) = rw (edge-suc t (outer .i) inside, done) refl in
     let next =
-    pass-edge t (start .args .points .now) (c .before .before .before .before .before .before .mark-evicted .last .0) (blockCount t) (outer .passed) (c .pass .result)
-    (rw add-one at (c .pass .ensures)) (c .before .before .before .before .before .before .mark-evicted .ensures .1) done (inner .inv .3) (outer .inv .4) in
-    (omega arith, omega arith, omega arith, rw add-one (next .0), rw add-one (next .1))
+    pass-edge t (start .args .points .now) (outer .inv .3) (outer .inv .4) (c .pass .result) (rw add-one at (c .pass .ensures)) inside (rw there at (inner .inv .3)) in
+    (omega arith, omega arith, omega arith, rw add-one (next .1), rw add-one (next .2), rw add-one (next .0))
 
 returns : tie.Need-returns Inv-loop2 μ-loop2 Inv-loop μ-loop
 returns c =
     let start = c .before .before .before .before .before .before .before .before in
     let l = c .before .loop in
-    let both = at-end (taskOf (start .args .file .now)) (start .args .points .now) _ (l .i) (omega arith) (l .inv .3) in
+    let t = taskOf (start .args .file .now) in
+    let of = c .before .before .before .before .before .geometry-of .ensures in
+    let formed = none-lowest (rightPoint (blockCount t)) 0 (steps 0 (start .args .points .now)) (start .pre .1) in
+    let both =
+    at-end t (start .args .points .now) (l .inv .3) (l .inv .4) (omega (arith, of .sound .some, of .count)) (omega (arith, of .sound .most, of .count)) formed (omega arith) (l .inv .5) in
     rw (both .0, both .1) refl
 
 pub count-misses-spec : {M : Type 1} → statement M

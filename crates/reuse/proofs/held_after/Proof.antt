@@ -6,17 +6,16 @@ use mathlib.Core.Logic.{⊎-elim}
 use native.Mathlib.Nat.{add-zero, add-assoc}
 use native.Mathlib.Omega.{arith}
 use native.Mathlib.Numerals.{add-one}
-use lib.ListN.{length, getD, replicate, getD-replicate}
+use lib.ListN.{length, getD}
 use borrow.Author.Needs.{needs}
 use Rattle.model.specs.Task.{blockCount}
 use Rattle.model.specs.Lines.{blockAt, readsOf, stateAfter}
-use Rattle.model.specs.declared.Line.the-variants.{Empty}
+use Rattle.model.proofs.Histories.{Holds, holds-none, holds-skip, holds-more}
 use Rattle.model.proofs.LineStates.{lies-on, lies-nowhere}
 use Rattle.model.proofs.ReadOrder.{edge, edge-suc, take-edge}
 use Rattle.taskfile.specs.File.{taskOf}
 use Rattle.taskfile.proofs.Accepted as accepted-file
 use Rattle.cacheline.proofs.Below.{line-below}
-use Rattle.reuse.proofs.States.{Holds, holds-none, holds-skip, holds-more}
 use Rattle.reuse.proofs.held_after.Statement.{statement}
 use Rattle.reuse.proofs.held_after.Tie as tie
 
@@ -34,7 +33,7 @@ abbrev μ-loop : tie.MeasureT-loop
 
 loop-holds : tie.Need-loop-holds Inv-loop2 μ-loop2 Inv-loop μ-loop
 unfolding readsOf
-loop-holds c = (omega arith, holds-none _ (replicate 512 Empty) refl (λ d h. getD-replicate 512 d Empty Empty h))
+loop-holds c = (omega arith, holds-none _)
 
 add-b : tie.Need-add-b Inv-loop2 μ-loop2 Inv-loop μ-loop
 add-b c = omega arith
@@ -95,11 +94,11 @@ loop2-again c =
       rw (← add-assoc, add-one)
           (⊎-elim
           (λ w.
-          rw (w .2) (holds-skip t (outer .i) (inner .j) (number .result) (inner .held) inside counted number-is (inner .inv .1) (lies-nowhere t (number .result) (sym is ∙ w .1 .given .1))))
+          rw (w .2) (holds-skip t (outer .i) (inner .j) (number .result) inside counted number-is (lies-nowhere t (number .result) (sym is ∙ w .1 .given .1)) (inner .inv .1)))
           (λ w.
           rw (w .3)
-          (holds-more t (outer .i) (inner .j) (number .result) (inner .held) inside counted number-is (inner .inv .1) (w .1 .given .0 .0)
-          (lies-on t (number .result) (w .1 .given .0 .0) (sym is ∙ w .1 .given .1)) (line-below (line .result) (w .1 .given .0 .0) (w .1 .given .1) (line .ensures .1))))
+          (holds-more t (outer .i) (inner .j) (number .result) inside counted number-is (w .1 .given .0 .0)
+          (line-below (line .result) (w .1 .given .0 .0) (w .1 .given .1) (line .ensures .1)) (lies-on t (number .result) (w .1 .given .0 .0) (sym is ∙ w .1 .given .1)) (inner .inv .1)))
           (c .match .came)),
     )
 

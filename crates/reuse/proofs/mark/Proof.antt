@@ -1,25 +1,14 @@
 -- `reuse::mark` meets its contract, by the mapping's two cases.
 -- Assumes nothing.
-use Prim.Native.Nat.{ℕ, _<_}
-use mathlib.Core.Path.{_≡_, refl, sym, _∙_}
-use mathlib.Core.Bool.{Bool, true, false, _||_, or-true, or-false}
-use mathlib.Core.List.{List}
-use mathlib.Core.Logic.{by-cases}
-use native.Mathlib.Decide.{ℕ-discrete}
+use mathlib.Core.Path.{sym, _∙_}
+use mathlib.Core.Bool.{true, or-false}
 use native.Mathlib.Omega.{arith}
-use lib.Dec.{eqb}
-use lib.ListN.{length, getD, set, length-set}
-use lib.Seq.{getD-set-same, getD-set-other}
+use lib.ListN.{length-set}
 use borrow.Author.Needs.{needs}
-use borrow.Author.Tests.{eq-eqb, ne-eqb}
 use Rattle.cacheline.proofs.Below.{line-below}
+use Rattle.reuse.proofs.Marks.{one-marked}
 use Rattle.reuse.proofs.mark.Statement.{statement}
 use Rattle.reuse.proofs.mark.Tie as tie
-
-one-marked : (marks : List Bool) (line d : ℕ) → line < length marks → getD (set marks line true) d false ≡ (getD marks d false || eqb d line)
-one-marked marks line d h =
-    by-cases (ℕ-discrete d line) (λ e. rw (e, eq-eqb line line refl, or-true) (getD-set-same marks line true false h))
-    (λ n. rw (ne-eqb d line n, or-false) (getD-set-other marks line d true false n))
 
 enum-told : tie.Need-enum-told
 enum-told c = search needs

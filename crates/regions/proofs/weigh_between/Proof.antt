@@ -1,0 +1,39 @@
+-- `regions::weigh_between` meets its contract: these are the region's numbers.
+-- Assumes nothing.
+use mathlib.Core.Path.{_∙_}
+use native.Mathlib.Omega.{arith}
+use borrow.Author.Needs.{needs}
+use Rattle.model.proofs.Regions.{lines-region}
+use Rattle.taskfile.specs.File.{taskOf}
+use Rattle.taskfile.proofs.Accepted.{few-blocks}
+use Rattle.regions.specs.Measures.{Described}
+use Rattle.regions.proofs.weigh_between.Statement.{statement}
+use Rattle.regions.proofs.weigh_between.Tie as tie
+
+header-requires : tie.Need-header-requires
+header-requires c κs = search needs
+
+time-between-requires : tie.Need-time-between-requires
+time-between-requires c κs = search needs
+
+weigh-requires : tie.Need-weigh-requires
+weigh-requires c κs =
+    let start = c .before .before .before in
+    let file = start .args .file .now in (
+      omega (arith, c .time-between .ensures .1, start .pre .2, few-blocks file (start .pre .0)),
+      omega (arith, start .pre .3, lines-region (taskOf file) (start .args .a) (start .args .b)),
+    )
+
+returns : tie.Need-returns
+returns c =
+    let start = c .before .before .before .before in
+    let t = taskOf (start .args .file .now) in
+    let a = start .args .a in
+    let b = start .args .b in
+    let weighs = c .weigh .ensures in
+    let described : Described t a b (c .before .before .header .result) (c .before .time-between .result) (start .args .lines) =
+    record { header-is = c .before .before .header .ensures .0; time-is = c .before .time-between .ensures .0; lines-are = start .pre .3 } in
+    (weighs .length t a b described, weighs .cost t a b described, weighs .fits t a b described, weighs .small)
+
+pub weigh-between-spec : {M : Type 1} → statement M
+weigh-between-spec = tie.close (tie.spec header-requires time-between-requires weigh-requires returns)

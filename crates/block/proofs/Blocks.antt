@@ -1,18 +1,14 @@
 -- Laws of blocks of 512 bytes: the tests of a checksum and of a body, part by part, and what the tests say together.
 -- Assumes nothing.
-use Prim.Native.Nat.{ℕ, zero, suc, _+_, _-_, _^_, _<_, _≤_}
+use Prim.Native.Nat.{ℕ, _+_, _-_, _^_, _<_, _≤_}
 use mathlib.Core.Path.{_≡_, refl, sym, ap, ap₂, _∙_}
-use mathlib.Core.Bool.{Bool, true, false, cond, _&&_, and-true}
-use mathlib.Core.Logic.{by-cases}
+use mathlib.Core.Bool.{Bool, true, _&&_, and-true}
 use mathlib.Core.List.{List, _∷_, _++_, append-nil, append-assoc}
-use native.Mathlib.Numerals.{add-one}
 use native.Mathlib.Omega.{arith}
-use native.Mathlib.Decide.{ℕ-discrete}
 use lib.Dec.{eqb}
 use lib.ListN.{length, getD, take, drop, replicate, length-append, length-drop, length-replicate, take-append-drop, drop-of-length-le}
 use lib.Seq.{take-all, take-add, take-at, drop-drop, length-take-le}
-use Rattle.model.specs.Lists.{lowestFrom, sameList}
-use Rattle.model.specs.declared.Place.the-variants.{Nowhere, At}
+use Rattle.model.specs.Lists.{sameList}
 use Rattle.model.proofs.Lists.{same-list, list-same, same-append}
 use Rattle.fnv.specs.Fnv.{fnv1a}
 use Rattle.fnv.proofs.Laws.{hash-below}

@@ -1,12 +1,10 @@
 -- Blocks of 512 bytes, of any kind (document 01, "Blocks of 512 bytes").
 -- Assumes nothing.
 use Prim.Native.Nat.{ℕ, zero, suc, _-_}
-use mathlib.Core.Bool.{Bool, cond}
+use mathlib.Core.Bool.{Bool}
 use mathlib.Core.List.{List, [], _++_}
 use lib.ListN.{length, take, drop, replicate}
 use Rattle.model.specs.Lists.{sameList}
-use Rattle.model.specs.declared.Place.{Place}
-use Rattle.model.specs.declared.Place.the-variants.{Nowhere, At}
 use Rattle.fnv.specs.Fnv.{fnv1a}
 use Rattle.block.specs.Bytes.{le}
 

@@ -1,52 +1,40 @@
 -- The parts of two accepted files, copied behind one another, are the basic blocks and the preempter blocks of the joined task.
 -- Assumes nothing.
-use Prim.Native.Nat.{ℕ, _+_, _-_, _*_}
-use mathlib.Core.Path.{_≡_, _∙_}
+use Prim.Native.Nat.{ℕ, _*_}
+use mathlib.Core.Path.{_≡_}
 use mathlib.Core.List.{List, _++_, map, map-append}
-use native.Mathlib.Omega.{arith}
-use lib.ListN.{length, take, drop, length-map, length-drop}
-use lib.Seq.{take-all}
+use lib.ListN.{length}
 use Rattle.model.specs.Task.{blockCount}
 use Rattle.model.specs.declared.Verdict.the-variants.{Accepted}
-use Rattle.taskfile.specs.File.{basicBytes, preempterBytes, wholeBlocks, taskOf, verdict, Within}
-use Rattle.taskfile.proofs.Accepted as files
-use Rattle.taskfile.proofs.Files.{task-then-file, accepted-within}
-use Rattle.taskfile.proofs.Tasks.{basics-roomy, preempters-roomy, basic-part, preempter-part}
-use Rattle.writer.specs.Writing.{Written, bodies}
+use Rattle.taskfile.specs.File.{basicBytes, preempterBytes, basicBlocks, preempterBlocks, taskOf, verdict}
+use Rattle.taskfile.proofs.Files.{accepted-within}
+use Rattle.taskfile.proofs.Tasks.{basics-roomy, preempters-roomy, basics-long, preempters-long}
+use Rattle.writer.specs.Writing.{Appended, copies}
 use Rattle.writer.proofs.Copying.{copied}
 use Rattle.joining.specs.Joining.{joined}
 
-module _ (file : List ℕ) (e : verdict file ≡ Accepted) where
-  within : Within (taskOf file)
-  within = accepted-within file e
+-- the lengths of a file's parts
+module _ (file part : List ℕ) (e : verdict file ≡ Accepted) where
+  pub basics-length : part ≡ basicBlocks (taskOf file) → length part ≡ 512 * blockCount (taskOf file)
+  basics-length s = rw s (basics-long (taskOf file) (accepted-within file e))
 
-  pub file-long : length file ≡ 512 * (1 + blockCount (taskOf file) + length (taskOf file .preempters))
-  file-long = rw (files.block-count file, files.preempter-count file) (files.accepted file e .long)
+  pub preempters-length : part ≡ preempterBlocks (taskOf file) → length part ≡ 512 * length (taskOf file .preempters)
+  preempters-length s = rw s (preempters-long (taskOf file) (accepted-within file e))
 
-  basics : (w : ℕ) → w ≡ 512 * blockCount (taskOf file) → take w (drop 512 file) ≡ wholeBlocks 1 (map basicBytes (taskOf file .blocks))
-  basics w ew = rw ew (rw (task-then-file file e) at (basic-part (taskOf file) within))
-
-  preempters : (s w : ℕ) → s ≡ 512 + 512 * blockCount (taskOf file) → w ≡ length file - s
-      → take w (drop s file) ≡ wholeBlocks (1 + blockCount (taskOf file)) (map preempterBytes (taskOf file .preempters))
-  preempters s w es ew =
-      take-all w (drop s file) (omega (arith, length-drop s file)) ∙ rw es (rw (task-then-file file e) at (preempter-part (taskOf file) within))
-
-module _ (first second : List ℕ) (e : verdict first ≡ Accepted) (f : verdict second ≡ Accepted) where
-  pub basics-joined : (k n m v w : ℕ) (out : List ℕ) → n ≡ blockCount (taskOf first) → m ≡ blockCount (taskOf second) → v ≡ 512 * n → w ≡ 512 * m
-      → Written k (bodies n (take v (drop 512 first)) ++ bodies m (take w (drop 512 second))) out
-      → Written k (map basicBytes (joined (taskOf first) (taskOf second) .blocks)) out
-  unfolding joined
-  basics-joined k n m v w out en em ev ew copy =
+-- what copies of the parts of both are
+module _ (first second : List ℕ) (e : verdict first ≡ Accepted) (f : verdict second ≡ Accepted) (k : ℕ) (source other old new : List ℕ)
+    (copy : Appended k (copies source ++ copies other) old new) where
+  pub basics-joined : source ≡ basicBlocks (taskOf first) → other ≡ basicBlocks (taskOf second)
+      → Appended k (map basicBytes (joined (taskOf first) (taskOf second) .blocks)) old new
+  unfolding joined basicBlocks
+  basics-joined s o =
       rw map-append
-      (copied 1 1 k n m _ _ _ _ out (basics-roomy (taskOf first) (within first e)) (basics-roomy (taskOf second) (within second f)) (rw length-map en) (rw length-map em)
-      (basics first e v (rw (← en) ev)) (basics second f w (rw (← em) ew)) copy)
+      (copied _ _ k _ _ source other old new (basics-roomy (taskOf first) (accepted-within first e)) (basics-roomy (taskOf second) (accepted-within second f)) s o copy)
 
-  pub preempters-joined : (k n m s t v w : ℕ) (out : List ℕ) → n ≡ length (taskOf first .preempters) → m ≡ length (taskOf second .preempters)
-      → s ≡ 512 + 512 * blockCount (taskOf first) → t ≡ 512 + 512 * blockCount (taskOf second) → v ≡ length first - s → w ≡ length second - t
-      → Written k (bodies n (take v (drop s first)) ++ bodies m (take w (drop t second))) out
-      → Written k (map preempterBytes (joined (taskOf first) (taskOf second) .preempters)) out
-  unfolding joined
-  preempters-joined k n m s t v w out en em es et ev ew copy =
+  pub preempters-joined : source ≡ preempterBlocks (taskOf first) → other ≡ preempterBlocks (taskOf second)
+      → Appended k (map preempterBytes (joined (taskOf first) (taskOf second) .preempters)) old new
+  unfolding joined preempterBlocks
+  preempters-joined s o =
       rw map-append
-      (copied _ _ k n m _ _ _ _ out (preempters-roomy (taskOf first) (within first e)) (preempters-roomy (taskOf second) (within second f)) (rw length-map en)
-      (rw length-map em) (preempters first e s v es ev) (preempters second f t w et ew) copy)
+      (copied _ _ k _ _ source other old new (preempters-roomy (taskOf first) (accepted-within first e))
+      (preempters-roomy (taskOf second) (accepted-within second f)) s o copy)

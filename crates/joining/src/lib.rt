@@ -1,15 +1,10 @@
 // Two task files joined into one: the basic blocks of the first and then of the second, and the preempters likewise.
 ghost use mathlib.Core.Path.{_≡_};
-ghost use mathlib.Core.List.{map};
-ghost use Prim.Native.Nat.{_+_, _*_, _≤_};
+ghost use Prim.Native.Nat.{_+_, _*_};
 ghost use Prim.Native.Nat as Nat;
-ghost use lib.ListN.{length, take};
-ghost use Rattle.model.specs.Task.{blockCount};
+ghost use lib.ListN.{length};
 ghost use Rattle.model.specs.Answers.{onAccepted};
-ghost use Rattle.block.specs.Bytes.{packed};
-ghost use Rattle.block.specs.Blocks.{numbered};
-ghost use Rattle.taskfile.specs.File.{basicBytes, preempterBytes, taskNumbers, taskOf, fileOf, IsAccepted};
-ghost use Rattle.writer.specs.Writing.{Written};
+ghost use Rattle.taskfile.specs.File.{taskOf, fileOf, IsAccepted};
 ghost use Rattle.joining.specs.Joining.{joined, agree, Totals};
 ghost use Rattle.joining.specs.Calls.{agreeRow, totalsRow, joinRows, joinVerdict, joinInput, joinLeft};
 use model::Header;
@@ -85,56 +80,6 @@ fn joined_header(first: &[u8], second: &[u8]) -> Header
     header
 }
 
-// Stores the header of the joined task, which has so many basic blocks and preempters.
-fn put_header(block: &mut [u8], first: &[u8], second: &[u8], blocks: usize, preempters: usize)
-    requires { ⌜ (length (now block) ≡ 512) × IsAccepted (now first) × IsAccepted (now second) ⌝ }
-    requires { ⌜ Totals (joined (taskOf (now first)) (taskOf (now second))) blocks preempters ⌝ }
-    ensures { λ _. ⌜ take 508 (now (block .exit)) ≡ numbered 0 (packed (taskNumbers (joined (taskOf (now (first .entry))) (taskOf (now (second .entry)))))) ⌝ }
-{
-    let header = joined_header(first, second);
-    writer::put_header(block, blocks as u16, preempters as u16, header);
-}
-
-// Copies the basic blocks of both files, all but their checksums.
-fn put_basics(out: &mut [u8], first: &[u8], second: &[u8])
-    requires { ⌜ IsAccepted (now first) × IsAccepted (now second) ⌝ }
-    requires { ⌜ length (now out) ≡ 512 * blockCount (joined (taskOf (now first)) (taskOf (now second))) ⌝ }
-    ensures { λ _. ⌜ Written 1 (map basicBytes (joined (taskOf (now (first .entry))) (taskOf (now (second .entry))) .blocks)) (now (out .exit)) ⌝ }
-{
-    let count = taskfile::block_count(first);
-    let more = taskfile::block_count(second);
-    let first_end = 512 + 512 * count;
-    let second_end = 512 + 512 * more;
-    writer::copy_both(
-        out,
-        &first[512..first_end],
-        &second[512..second_end],
-        1,
-        count,
-        more,
-    );
-}
-
-// Copies the preempter blocks of both files, numbered from number, all but their checksums.
-fn put_preempters(out: &mut [u8], first: &[u8], second: &[u8], number: u32)
-    requires { ⌜ IsAccepted (now first) × IsAccepted (now second) × (number ≤ 65) ⌝ }
-    requires { ⌜ length (now out) ≡ 512 * length (joined (taskOf (now first)) (taskOf (now second)) .preempters) ⌝ }
-    ensures { λ _. ⌜ Written number (map preempterBytes (joined (taskOf (now (first .entry))) (taskOf (now (second .entry))) .preempters)) (now (out .exit)) ⌝ }
-{
-    let count = taskfile::preempter_count(first);
-    let more = taskfile::preempter_count(second);
-    let first_start = 512 + 512 * taskfile::block_count(first);
-    let second_start = 512 + 512 * taskfile::block_count(second);
-    writer::copy_both(
-        out,
-        &first[first_start..],
-        &second[second_start..],
-        number,
-        count,
-        more,
-    );
-}
-
 // Stores the joined file, which has so many basic blocks and preempters, in a buffer of its length.
 fn put_joined(out: &mut [u8], first: &[u8], second: &[u8], blocks: usize, preempters: usize)
     requires { ⌜ IsAccepted (now first) × IsAccepted (now second) ⌝ }
@@ -142,11 +87,20 @@ fn put_joined(out: &mut [u8], first: &[u8], second: &[u8], blocks: usize, preemp
     requires { ⌜ length (now out) ≡ 512 * (1 + blocks + preempters) ⌝ }
     ensures { λ _. ⌜ now (out .exit) ≡ fileOf (joined (taskOf (now (first .entry))) (taskOf (now (second .entry)))) ⌝ }
 {
-    put_header(&mut out[..512], first, second, blocks, preempters);
-    let basic_end = 512 + 512 * blocks;
-    put_basics(&mut out[512..basic_end], first, second);
-    put_preempters(&mut out[basic_end..], first, second, 1 + blocks as u32);
-    block::seal_blocks(out, 1 + blocks + preempters);
+    let header = joined_header(first, second);
+    writer::copy_both(
+        out,
+        0,
+        taskfile::basic_blocks(first),
+        taskfile::basic_blocks(second),
+    );
+    writer::copy_both(
+        out,
+        blocks,
+        taskfile::preempter_blocks(first),
+        taskfile::preempter_blocks(second),
+    );
+    writer::close_file(out, blocks as u16, preempters as u16, header);
 }
 
 // Joins accepted files.

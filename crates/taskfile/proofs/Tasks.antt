@@ -8,8 +8,8 @@ use native.Mathlib.Nat.{zero-add, add-zero, add-suc, suc-add}
 use native.Mathlib.Numerals.{one-add}
 use native.Mathlib.Decide.{decLe}
 use native.Mathlib.Omega.{arith}
-use lib.ListN.{length, getD, take, drop, length-append, length-map, List·getD-append, List·getD-map}
-use lib.Seq.{take-at, drop-at, drop-drop, drop-append-add, getD-append-add, ext-getD}
+use lib.ListN.{length, getD, length-append, length-map, List·getD-append, List·getD-map}
+use lib.Seq.{take-at, drop-append-add, getD-append-add, ext-getD}
 use borrow.Author.Tests.{le-leb, lt-leb, lt-ltb, eq-eqb}
 use Rattle.model.specs.Task.{Block, Preempter, Task, blockCount, noBlock}
 use Rattle.model.specs.declared.Verdict.the-variants.{Accepted}
@@ -20,16 +20,15 @@ use Rattle.block.proofs.Each.{each-at, each-map, each-append}
 use Rattle.block.proofs.Packing.{numberAt, numbers-read}
 use Rattle.model.proofs.Lowest.{nowhere-lowest}
 use Rattle.block.proofs.Blocks.{length-numbered, length-sealed, afterNamed, sealed-named, numbers-back, list-back, checksum-sealed, body-sealed}
-use Rattle.taskfile.specs.File.{blockIn, blocksIn, counts, readsIn, basicOf, preempterOf, collect, headerOf, taskOf, headerNumbers, taskNumbers, entryBytes, basicBytes, preempterBytes, namedBytes, wholeBlocks, fileOf, lengthRight, sumRight, headerRight, entryRight, blockRight, lengthRow, checksumRow, headerRow, countRow, blockRow, verdict, EntryWithin, Within}
+use Rattle.taskfile.specs.File.{blockIn, blocksIn, counts, readsIn, basicOf, preempterOf, collect, headerOf, taskOf, headerNumbers, taskNumbers, entryBytes, basicBytes, preempterBytes, namedBytes, wholeBlocks, basicBlocks, preempterBlocks, fileOf, lengthRight, sumRight, headerRight, entryRight, blockRight, lengthRow, checksumRow, headerRow, countRow, blockRow, verdict, EntryWithin, Within}
 use Rattle.taskfile.specs.Statements.{FileThenTask}
 use Rattle.taskfile.proofs.Accepted.{in-range, length-collect, getD-collect}
-use Rattle.taskfile.proofs.Files.{whole-append}
 
 -- named bytes that a block has room for
 abbrev pub Room : List ℕ → Type 0
 Room named = length named ≤ 504
 
-length-whole : (a : ℕ) (ns : List (List ℕ)) → Each Room ns → length (wholeBlocks a ns) ≡ 512 * length ns
+pub length-whole : (a : ℕ) (ns : List (List ℕ)) → Each Room ns → length (wholeBlocks a ns) ≡ 512 * length ns
 unfolding wholeBlocks Each
 length-whole a [] e = refl
 length-whole a (n ∷ ns) e =
@@ -120,26 +119,13 @@ module _ (t : Task) (w : Within t) where
   unfolding namedBytes
   count-names = simp (length-append, length-map) (omega arith)
 
-  -- the header, the basic blocks and the preempter blocks
-  parts : fileOf t ≡ sealed (numbered 0 (packed (taskNumbers t))) ++
-      (wholeBlocks 1 (map basicBytes (t .blocks)) ++ wholeBlocks (1 + blockCount t) (map preempterBytes (t .preempters)))
-  unfolding fileOf namedBytes wholeBlocks
-  parts = rw (whole-append 1 (map basicBytes (t .blocks)) (map preempterBytes (t .preempters)), length-map)
-
-  behind-header : drop 512 (fileOf t) ≡ wholeBlocks 1 (map basicBytes (t .blocks)) ++ wholeBlocks (1 + blockCount t) (map preempterBytes (t .preempters))
-  unfolding Each namedBytes
-  behind-header = rw parts (drop-at (sealed (numbered 0 (packed (taskNumbers t)))) _ 512 (length-sealed _ (length-numbered 0 _ (roomy .0))))
-
-  basics-long : length (wholeBlocks 1 (map basicBytes (t .blocks))) ≡ 512 * blockCount t
+  pub basics-long : length (basicBlocks t) ≡ 512 * blockCount t
+  unfolding basicBlocks
   basics-long = length-whole 1 (map basicBytes (t .blocks)) basics-roomy ∙ rw length-map
 
-  pub basic-part : take (512 * blockCount t) (drop 512 (fileOf t)) ≡ wholeBlocks 1 (map basicBytes (t .blocks))
-  basic-part = rw behind-header (take-at _ _ (512 * blockCount t) basics-long)
-
-  pub preempter-part : drop (512 + 512 * blockCount t) (fileOf t) ≡ wholeBlocks (1 + blockCount t) (map preempterBytes (t .preempters))
-  preempter-part =
-      rw (← drop-drop (512 * blockCount t) 512 (fileOf t), behind-header)
-      (drop-at (wholeBlocks 1 (map basicBytes (t .blocks))) _ (512 * blockCount t) basics-long)
+  pub preempters-long : length (preempterBlocks t) ≡ 512 * length (t .preempters)
+  unfolding preempterBlocks
+  preempters-long = length-whole (1 + blockCount t) (map preempterBytes (t .preempters)) preempters-roomy ∙ rw length-map
 
   header-written : blockIn (fileOf t) 0 ≡ sealed (numbered 0 (packed (taskNumbers t)))
   unfolding fileOf namedBytes

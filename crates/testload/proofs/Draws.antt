@@ -10,8 +10,8 @@ use borrow.Rule.Slice.PartMut.{putMid}
 use Rattle.block.specs.Bytes.{Each}
 use Rattle.block.specs.Blocks.{numbered}
 use Rattle.taskfile.specs.File.{EntryWithin}
-use Rattle.writer.specs.Writing.{storedReads, Written}
-use Rattle.writer.proofs.Laws.{written-more}
+use Rattle.writer.specs.Writing.{storedReads, Appended}
+use Rattle.writer.proofs.Laws.{appended-more}
 use Rattle.testload.specs.Draws.{next, draw, after, drawnList, drawnNumber, drawnReads, drawnBlock, drawnPreempter}
 
 pub after-snoc : (f : ℕ → ℕ) (n s : ℕ) → after f (suc n) s ≡ f (after f n s)
@@ -35,14 +35,15 @@ pub number-more : (j s current drawn : ℕ) (bs new : List ℕ) → storedReads 
 unfolding drawnNumber
 number-more j s current drawn bs new e c d p = p ∙ rw (drawn-snoc drawnNumber next 0 j s, e, d, c)
 
--- one block more is written, in the part of w bytes behind those that are
-pub block-more : {A : Type 0} (h : A → List ℕ) (g : ℕ → ℕ → A) (f : ℕ → ℕ) (k n s current w : ℕ) (out part : List ℕ) → n * 512 ≤ length out
-    → length part ≡ 512 → Written k (map h (drawnList g f 0 n s)) out → current ≡ after f n s → take 508 part ≡ numbered (k + n) (h (g n current))
-    → Written k (map h (drawnList g f 0 (suc n) s)) (putMid (n * 512) w out part)
-block-more h g f k n s current w out part room long before e p =
+-- one block more is appended, in the part of w bytes behind those that are
+pub block-more : {A : Type 0} (h : A → List ℕ) (g : ℕ → ℕ → A) (f : ℕ → ℕ) (k n s current w : ℕ) (old out part : List ℕ) → (1 + k + n) * 512 ≤ length out
+    → length part ≡ 512 → Appended k (map h (drawnList g f 0 n s)) old out → current ≡ after f n s → take 508 part ≡ numbered (1 + k + n) (h (g n current))
+    → Appended k (map h (drawnList g f 0 (suc n) s)) old (putMid ((1 + k + n) * 512) w out part)
+block-more h g f k n s current w old out part room long before e p =
     let count : length (map h (drawnList g f 0 n s)) ≡ n = length-map (drawnList g f 0 n s) h ∙ length-drawn g f 0 n s in
     rw (drawn-snoc g f 0 n s, map-append, zero-add)
-    (written-more k (n * 512) w (map h (drawnList g f 0 n s)) (h (g n (after f n s))) out part (omega arith) room (omega arith) before (rw (count, ← e) p))
+    (appended-more k ((1 + k + n) * 512) w (map h (drawnList g f 0 n s)) (h (g n (after f n s))) old out part (omega arith) room (omega arith) before
+    (rw (count, ← e) p))
 
 -- what holds of each thing drawn, whose indices are below k
 each-drawn : {A : Type 0} (P : A → Type 0) (g : ℕ → ℕ → A) (f : ℕ → ℕ) (i n k s : ℕ) → i + n ≤ k → ((j t : ℕ) → j < k → P (g j t))

@@ -1,23 +1,22 @@
 -- Every file made is accepted, and its task is the drawn one: the drawn task is within the limits of a file.
 -- Assumes nothing.
 use Prim.Native.Nat.{ℕ, _+_, _*_, _^_, _<_}
-use mathlib.Core.Path.{_≡_, refl}
+use mathlib.Core.Path.{_≡_, refl, sym, _∙_}
 use mathlib.Core.Bool.{true}
-use mathlib.Core.List.{List, _++_, map}
+use mathlib.Core.List.{List, map}
+use native.Mathlib.Nat.{zero-add}
 use native.Mathlib.Omega.{arith}
-use lib.ListN.{length, take, drop}
-use borrow.Rule.Slice.PartMut.{putMid}
+use lib.ListN.{length, length-map}
 use borrow.Author.Tests.{eqb-true}
 use Rattle.model.specs.declared.Refusal.the-variants.{Output, OutOfRange}
 use Rattle.model.specs.declared.Verdict.the-variants.{Accepted}
 use Rattle.model.proofs.Verdicts.{row-holds, both-accepted}
-use Rattle.block.specs.Bytes.{packed, Each}
-use Rattle.block.specs.Blocks.{numbered, sealedBlocks}
-use Rattle.taskfile.specs.File.{headerNumbers, taskNumbers, basicBytes, preempterBytes, countsInRange, scratchInRange, headerInRange, fileOf, Within}
+use Rattle.block.specs.Bytes.{Each}
+use Rattle.taskfile.specs.File.{headerNumbers, basicBytes, preempterBytes, countsInRange, scratchInRange, headerInRange, fileOf, Within}
 use Rattle.taskfile.proofs.Accepted.{counts-range}
 use Rattle.taskfile.proofs.Tasks.{file-then-task}
-use Rattle.writer.specs.Writing.{outputRow, Written}
-use Rattle.writer.proofs.Laws.{written-task}
+use Rattle.writer.specs.Writing.{outputRow, Appended, closedFile}
+use Rattle.writer.proofs.Laws.{appended-both, task-closed}
 use Rattle.testload.specs.Draws.{after, drawnList, afterReads, drawnBlock, afterBlock, drawnPreempter, drawnHeader, drawnTask}
 use Rattle.testload.specs.Calls.{countsRow, generateVerdict, generated}
 use Rattle.testload.specs.Statements.{GeneratedAccepted}
@@ -27,10 +26,6 @@ use Rattle.testload.proofs.Draws.{length-drawn, blocks-within, preempte
 counts-drawn : (seed n m s q r : ℕ) → let t = drawnTask seed n m s q r in (length (t .blocks) ≡ n) × (length (t .preempters) ≡ m)
 unfolding drawnTask
 counts-drawn seed n m s q r = (length-drawn drawnBlock afterBlock 0 n seed, length-drawn drawnPreempter afterReads 0 m (after afterBlock n seed))
-
-pub numbers-drawn : (seed n m s q r : ℕ) → headerNumbers n m (drawnHeader seed s q r) ≡ taskNumbers (drawnTask seed n m s q r)
-unfolding drawnTask
-numbers-drawn seed n m s q r = let counts = counts-drawn seed n m s q r in rw (counts .0, counts .1)
 
 module _ (seed n m s q r : ℕ) (ok : countsInRange n m s ≡ true) where
   within : seed < 2 ^ 32 → q < 2 ^ 32 → r < 2 ^ 32 → Within (drawnTask seed n m s q r)
@@ -45,17 +40,17 @@ module _ (seed n m s q r : ℕ) (ok : countsInRange n m s ≡ true) where
         preempters = preempters-within afterReads m (after afterBlock n seed) (range .2);
       }
 
--- what `put_task` leaves
-pub task-put : (seed n m s q r e v w state : ℕ) (out head basic rest new : List ℕ) → let t = drawnTask seed n m s q r in
-    length out ≡ 512 * (1 + n + m) → length head ≡ 512 → length basic ≡ 512 * n → length rest ≡ 512 * m → e ≡ 512 + 512 * n → v ≡ 512 * n → w ≡ 512 * m
-    → take 508 head ≡ numbered 0 (packed (headerNumbers n m (drawnHeader seed s q r))) → Written 1 (map basicBytes (drawnList drawnBlock afterBlock 0 n seed)) basic
-    → state ≡ after afterBlock n seed → Written (1 + n) (map preempterBytes (drawnList drawnPreempter afterReads 0 m state)) rest
-    → let all = putMid e w (putMid 512 v (head ++ drop 512 out) basic) rest in
-    new ≡ sealedBlocks (1 + n + m) all ++ drop (512 * (1 + n + m)) all → new ≡ fileOf t
+-- what `put_task` leaves: the basic blocks are drawn, then the preempters from the state after them, and the file is closed
+pub task-put : (seed n m s q r state : ℕ) (out basic all new : List ℕ) → Appended 0 (map basicBytes (drawnList drawnBlock afterBlock 0 n seed)) out basic
+    → state ≡ after afterBlock n seed → Appended n (map preempterBytes (drawnList drawnPreempter afterReads 0 m state)) basic all
+    → new ≡ closedFile n m (drawnHeader seed s q r) all → new ≡ fileOf (drawnTask seed n m s q r)
 unfolding drawnTask
-task-put seed n m s q r e v w state out head basic rest new l lh lb lr ee ev ew ph pb es pr pn =
+task-put seed n m s q r state out basic all new pb es pp e =
+    let t = drawnTask seed n m s q r in
     let counts = counts-drawn seed n m s q r in
-    written-task (drawnTask seed n m s q r) n m e v w out head basic rest new (counts .0) (counts .1) l lh lb lr ee ev ew (rw (← numbers-drawn seed n m s q r) ph) pb (rw es at pr) pn
+    let bs : List (List ℕ) = map basicBytes (t .blocks) in
+    let behind : n ≡ 0 + length bs = sym (counts .0) ∙ sym (length-map (t .blocks) basicBytes) ∙ sym (zero-add (length bs)) in
+    e ∙ task-closed t n m out all (sym (counts .0)) (sym (counts .1)) (appended-both 0 bs (map preempterBytes (t .preempters)) out basic all pb (rw (behind, es) at pp))
 
 -- of an accepted call the counts are in range, and the buffer has the file's length
 pub accepted-rows : (n m s : ℕ) (out : List ℕ) → generateVerdict n m s out ≡ Accepted

@@ -5,7 +5,7 @@ ghost use Prim.Native.Nat.{_+_, _*_, _≤_};
 ghost use lib.ListN.{length, take};
 ghost use Rattle.block.specs.Blocks.{numbered};
 ghost use Rattle.taskfile.specs.File.{basicBytes, preempterBytes, fileOf};
-ghost use Rattle.writer.specs.Writing.{storedReads, Written};
+ghost use Rattle.writer.specs.Writing.{storedReads, Appended};
 ghost use Rattle.testload.specs.Draws as Draws;
 ghost use Rattle.testload.specs.Draws.{next, after, drawnList, drawnNumber, afterReads, drawnBlock, afterBlock, drawnPreempter, drawnTask};
 ghost use Rattle.testload.specs.Calls.{countsRow, generateVerdict, generated};
@@ -75,16 +75,16 @@ fn put_preempter(block: &mut [u8], number: u32, id: u32, state: u32) -> u32
     after
 }
 
-// Draws the basic blocks, all but their checksums, and answers the state after them.
+// Draws the basic blocks into a file, all but their checksums, and answers the state after them.
 fn put_blocks(out: &mut [u8], count: usize, state: u32) -> u32
-    requires { ⌜ (length (now out) ≡ 512 * count) × (count ≤ 64) ⌝ }
-    ensures { λ _. ⌜ Written 1 (map basicBytes (drawnList drawnBlock afterBlock 0 count state)) (now (out .exit)) ⌝ }
+    requires { ⌜ (512 * (1 + count) ≤ length (now out)) × (count ≤ 64) ⌝ }
+    ensures { λ _. ⌜ Appended 0 (map basicBytes (drawnList drawnBlock afterBlock 0 count state)) (now (out .entry)) (now (out .exit)) ⌝ }
     ensures { λ r. ⌜ r ≡ after afterBlock count state ⌝ }
 {
     let mut current = state;
     let mut i = 0;
     while i < count {
-        let start = i * 512;
+        let start = (1 + i) * 512;
         let end = start + 512;
         current = put_block(&mut out[start..end], i as u32, current);
         i += 1;
@@ -92,18 +92,18 @@ fn put_blocks(out: &mut [u8], count: usize, state: u32) -> u32
     current
 }
 
-// Draws the preempter blocks, numbered from first, all but their checksums.
-fn put_preempters(out: &mut [u8], first: u32, count: usize, state: u32)
-    requires { ⌜ (length (now out) ≡ 512 * count) × (first ≤ 65) × (count ≤ 32) ⌝ }
-    ensures { λ _. ⌜ Written first (map preempterBytes (drawnList drawnPreempter afterReads 0 count state)) (now (out .exit)) ⌝ }
+// Draws the preempter blocks into a file, behind its block k, all but their checksums.
+fn put_preempters(out: &mut [u8], k: usize, count: usize, state: u32)
+    requires { ⌜ (512 * (1 + k + count) ≤ length (now out)) × (k ≤ 64) × (count ≤ 32) ⌝ }
+    ensures { λ _. ⌜ Appended k (map preempterBytes (drawnList drawnPreempter afterReads 0 count state)) (now (out .entry)) (now (out .exit)) ⌝ }
 {
     let mut current = state;
     let mut i = 0;
     while i < count {
-        let start = i * 512;
+        let number = 1 + k + i;
+        let start = number * 512;
         let end = start + 512;
-        let id = i as u32;
-        current = put_preempter(&mut out[start..end], first + id, id, current);
+        current = put_preempter(&mut out[start..end], number as u32, i as u32, current);
         i += 1;
     }
 }
@@ -129,12 +129,9 @@ fn put_task(
         id: seed,
         scratch: Scratch { first: 0, count: 0 },
     };
-    writer::put_header(&mut out[..512], blocks as u16, preempters as u16, header);
-    let basic_end = 512 + 512 * blocks as usize;
-    let state = put_blocks(&mut out[512..basic_end], blocks as usize, seed);
-    let count = preempters as usize;
-    put_preempters(&mut out[basic_end..], 1 + blocks, count, state);
-    block::seal_blocks(out, 1 + blocks as usize + count);
+    let state = put_blocks(out, blocks as usize, seed);
+    put_preempters(out, blocks as usize, preempters as usize, state);
+    writer::close_file(out, blocks as u16, preempters as u16, header);
 }
 
 // Refuses N, M or S out of its range.

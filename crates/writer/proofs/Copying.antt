@@ -10,10 +10,10 @@ use Rattle.fnv.specs.Fnv.{fnv1a}
 use Rattle.block.specs.Bytes.{le, Each}
 use Rattle.block.specs.Blocks.{numbered, sealed}
 use Rattle.block.proofs.Blocks.{length-numbered, length-sealed}
-use Rattle.taskfile.specs.File.{wholeBlocks}
+use Rattle.taskfile.specs.File.{blocksIn, wholeBlocks}
 use Rattle.taskfile.proofs.Files.{whole-append}
-use Rattle.taskfile.proofs.Tasks.{Room}
-use Rattle.writer.specs.Writing.{Written, bodies}
+use Rattle.taskfile.proofs.Tasks.{Room, length-whole}
+use Rattle.writer.specs.Writing.{Appended, bodies, copies}
 
 -- what `copy_block` copies
 pub copied-front : (source block new : List ℕ) → length source ≡ 512
@@ -61,21 +61,26 @@ bodies-whole j k (n ∷ ns) e =
     let long : length (sealed (numbered j n)) ≡ 512 = length-sealed (numbered j n) (length-numbered j n (e .0)) in
     rw (front j n (wholeBlocks (suc j) ns) (e .0), padded k n (e .0), drop-at (sealed (numbered j n)) (wholeBlocks (suc j) ns) 512 long, bodies-whole (suc j) (suc k) ns (e .1))
 
--- so a copy of some and of others behind them is all of those blocks written
-pub copied : (i j k n m : ℕ) (xs ys : List (List ℕ)) (source other out : List ℕ) → Each Room xs → Each Room ys → n ≡ length xs → m ≡ length ys
-    → source ≡ wholeBlocks i xs → other ≡ wholeBlocks j ys → Written k (bodies n source ++ bodies m other) out → Written k (xs ++ ys) out
-unfolding Written
-copied i j k n m xs ys source other out ex ey en em es eo w =
-    rw (length-append xs ys, whole-append k xs ys)
+-- whole blocks are as many as were named
+count-whole : (j : ℕ) (names : List (List ℕ)) → Each Room names → blocksIn (wholeBlocks j names) ≡ length names
+unfolding blocksIn
+count-whole j names e = omega (arith, length-whole j names e)
+
+-- so copies of some and of others behind them are all of those blocks appended
+pub copied : (i j k : ℕ) (xs ys : List (List ℕ)) (source other old new : List ℕ) → Each Room xs → Each Room ys → source ≡ wholeBlocks i xs
+    → other ≡ wholeBlocks j ys → Appended k (copies source ++ copies other) old new → Appended k (xs ++ ys) old new
+unfolding Appended
+copied i j k xs ys source other old new ex ey es eo a =
+    rw (length-append xs ys, whole-append (1 + k) xs ys)
     (rw (
-      length-append (bodies n source) (bodies m other),
-      whole-append k (bodies n source) (bodies m other),
-      length-bodies n source,
-      length-bodies m other,
+      length-append (copies source) (copies other),
+      whole-append (1 + k) (copies source) (copies other),
+      length-bodies (blocksIn source) source,
+      length-bodies (blocksIn other) other,
       es,
       eo,
-      en,
-      em,
-      bodies-whole i k xs ex,
-      bodies-whole j (k + length xs) ys ey,
-    ) at w)
+      count-whole i xs ex,
+      count-whole j ys ey,
+      bodies-whole i (1 + k) xs ex,
+      bodies-whole j (1 + k + length xs) ys ey,
+    ) at a)

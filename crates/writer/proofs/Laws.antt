@@ -1,89 +1,88 @@
--- Laws of what is written: nothing, a block, and one part behind another, up to all blocks of a task.
+-- Laws of what is appended to a buffer: nothing, a block, and one part behind another, up to all blocks of a task, whose file it then becomes.
 -- Assumes nothing.
-use Prim.Native.Nat.{ℕ, _+_, _*_, _≤_}
-use mathlib.Core.Path.{_≡_, refl, sym, ap, _∙_}
+use Prim.Native.Nat.{ℕ, suc, _+_, _*_, _≤_}
+use mathlib.Core.Path.{_≡_, sym, ap, _∙_}
 use mathlib.Core.List.{List, [], _∷_, _++_, map, append-nil, append-assoc}
+use native.Mathlib.Nat.{add-zero}
 use native.Mathlib.Omega.{arith}
 use lib.ListN.{length, take, drop, length-append, length-drop, length-map, take-append-drop, drop-of-length-le}
-use lib.Seq.{take-at, drop-at, take-append-le, length-take-le}
+use lib.Seq.{drop-at, drop-append-le, take-append-le, length-take-le}
 use borrow.Rule.Slice.PartMut.{putMid}
 use Rattle.model.specs.Task.{Task, blockCount}
+use Rattle.model.specs.declared.Header.{Header}
 use Rattle.block.specs.Bytes.{packed}
 use Rattle.block.specs.Blocks.{numbered, sealedBlocks}
 use Rattle.block.proofs.Sealing.{sealed-add, sealed-front}
-use Rattle.taskfile.specs.File.{taskNumbers, basicBytes, preempterBytes, namedBytes, wholeBlocks, fileOf}
+use Rattle.taskfile.specs.File.{headerNumbers, basicBytes, preempterBytes, namedBytes, wholeBlocks, fileOf}
 use Rattle.taskfile.proofs.Files.{whole-append}
-use Rattle.writer.specs.Writing.{Written}
+use Rattle.writer.specs.Writing.{Appended, closedFile}
 
-pub written-none : (k : ℕ) (bs : List ℕ) → Written k [] bs
-unfolding Written sealedBlocks wholeBlocks
-written-none k bs = refl
-
-pub written-one : (k : ℕ) (named bs : List ℕ) → take 508 bs ≡ numbered k named → Written k (named ∷ []) bs
-unfolding Written sealedBlocks wholeBlocks
-written-one k named bs e = rw e
+pub appended-none : (k : ℕ) (bs : List ℕ) → Appended k [] bs bs
+unfolding Appended wholeBlocks
+appended-none k bs = rw (add-zero, append-nil)
 
 -- one part behind another
-pub written-append : (k : ℕ) (xs ys : List (List ℕ)) (front rest : List ℕ) → length front ≡ 512 * length xs → Written k xs front → Written (k + length xs) ys rest
-    → Written k (xs ++ ys) (front ++ rest)
-unfolding Written
-written-append k xs ys front rest l a b =
-    rw (length-append, sealed-add, sealed-front (length xs) front rest l, drop-at front rest (512 * length xs) l, a, b, whole-append)
+pub appended-both : (k : ℕ) (xs ys : List (List ℕ)) (old mid new : List ℕ) → Appended k xs old mid → Appended (k + length xs) ys mid new → Appended k (xs ++ ys) old new
+unfolding Appended
+appended-both k xs ys old mid new a b =
+    let count : k + length (xs ++ ys) ≡ k + length xs + length ys = omega (arith, length-append xs ys) in
+    let next : 1 + k + length xs ≡ 1 + (k + length xs) = omega arith in
+    rw (count, whole-append (1 + k) xs ys, next) (rw (a, append-assoc) at b)
 
--- the same, where the second part is put behind the first in a buffer
-pub written-two : (k s w : ℕ) (xs ys : List (List ℕ)) (out front rest : List ℕ) → length front ≡ s → s ≡ 512 * length xs → length rest ≡ 512 * length ys
-    → Written k xs front → Written (k + length xs) ys rest → Written k (xs ++ ys) (putMid s w (front ++ drop s out) rest)
-unfolding Written
-written-two k s w xs ys out front rest lf es lr a b =
-    let after : List ℕ = drop w (drop s (front ++ drop s out)) in
-    let later : Written (k + length xs) ys (rest ++ after) = sealed-front (length ys) rest after lr ∙ b in
-    rw (take-at front (drop s out) s lf) (written-append k xs ys front (rest ++ after) (lf ∙ es) a later)
-
--- one block more, in the part of w bytes from byte s on
-pub written-more : (k s w : ℕ) (xs : List (List ℕ)) (named bs part : List ℕ) → s ≡ 512 * length xs → s ≤ length bs → 508 ≤ length part → Written k xs bs
-    → take 508 part ≡ numbered (k + length xs) named → Written k (xs ++ (named ∷ [])) (putMid s w bs part)
-unfolding Written
-written-more k s w xs named bs part e h l a p =
-    let long : length (take s bs) ≡ 512 * length xs = length-take-le s bs h ∙ e in
-    let before : Written k xs (take s bs) =
-    sym (sealed-front (length xs) (take s bs) (drop s bs) long) ∙ ap (sealedBlocks (length xs)) (take-append-drop s bs) ∙ a in
+-- one block, in the place of w bytes from byte s on
+appended-one : (k s w : ℕ) (named bs part : List ℕ) → s ≡ 512 * (1 + k) → s ≤ length bs → 508 ≤ length part → take 508 part ≡ numbered (1 + k) named
+    → Appended k (named ∷ []) bs (putMid s w bs part)
+unfolding Appended wholeBlocks sealedBlocks
+appended-one k s w named bs part e h l p =
+    let front : List ℕ = take s bs in
     let rest : List ℕ = part ++ drop w (drop s bs) in
-    let block : take 508 rest ≡ numbered (k + length xs) named = take-append-le 508 part (drop w (drop s bs)) l ∙ p in
-    written-append k xs (named ∷ []) (take s bs) rest long before (written-one (k + length xs) named rest block)
+    let long : length front ≡ s = length-take-le s bs h in
+    let before : length (drop 512 front) ≡ 512 * k = omega (arith, length-drop 512 front) in
+    let behind : drop 512 (front ++ rest) ≡ drop 512 front ++ rest = drop-append-le 512 front rest (omega arith) in
+    let kept : drop 512 bs ≡ drop 512 front ++ drop s bs =
+    ap (drop 512) (sym (take-append-drop s bs)) ∙ drop-append-le 512 front (drop s bs) (omega arith) in
+    rw (
+      behind,
+      sealed-add k 1,
+      sealed-front k (drop 512 front) rest before,
+      drop-at (drop 512 front) rest (512 * k) before,
+      take-append-le 508 part (drop w (drop s bs)) l,
+      p,
+      kept,
+      sealed-front k (drop 512 front) (drop s bs) before,
+    )
 
--- all blocks of a task, with their checksums, are its bytes
-written-all : (t : Task) (count : ℕ) (bs new : List ℕ) → count ≡ length (namedBytes t) → length bs ≡ 512 * count → Written 0 (namedBytes t) bs
-    → new ≡ sealedBlocks count bs ++ drop (512 * count) bs → new ≡ fileOf t
-unfolding Written fileOf
-written-all t count bs new e l a p = p ∙ rw (drop-of-length-le bs {i = 512 * count} (omega arith), append-nil, e) a
+-- one block more
+pub appended-more : (k s w : ℕ) (xs : List (List ℕ)) (named old bs part : List ℕ) → s ≡ 512 * (1 + k + length xs) → s ≤ length bs → 508 ≤ length part
+    → Appended k xs old bs → take 508 part ≡ numbered (1 + k + length xs) named → Appended k (xs ++ (named ∷ [])) old (putMid s w bs part)
+appended-more k s w xs named old bs part e h l a p =
+    let next : 1 + k + length xs ≡ 1 + (k + length xs) = omega arith in
+    appended-both k xs (named ∷ []) old bs (putMid s w bs part) a
+    (appended-one (k + length xs) s w named bs part (omega arith) h l (rw next at p))
 
--- the header, the basic blocks and the preempter blocks, put one behind another, are all of the buffer
-parts-put : (n m e v w : ℕ) (out head basic rest : List ℕ) → length out ≡ 512 * (1 + n + m) → length head ≡ 512 → length basic ≡ 512 * n
-    → e ≡ 512 + 512 * n → v ≡ 512 * n → w ≡ 512 * m → putMid e w (putMid 512 v (head ++ drop 512 out) basic) rest ≡ head ++ (basic ++ rest)
-parts-put n m e v w out head basic rest l lh lb ee ev ew =
-    let later : List ℕ = drop v (drop 512 out) in
-    let front : take 512 (head ++ drop 512 out) ≡ head = take-at head (drop 512 out) 512 lh in
-    let back : drop 512 (head ++ drop 512 out) ≡ drop 512 out = drop-at head (drop 512 out) 512 lh in
-    let both : length (head ++ basic) ≡ e = omega (arith, length-append head basic) in
-    let two : putMid 512 v (head ++ drop 512 out) basic ≡ head ++ basic ++ later = rw (front, back, append-assoc) in
-    let done : drop w later ≡ [] = drop-of-length-le later {i = w} (omega (arith, length-drop v (drop 512 out), length-drop 512 out)) in
-    rw (two, take-at (head ++ basic) later e both, drop-at (head ++ basic) later e both, done, append-nil, append-assoc)
+-- what `close_file` leaves
+pub file-closed : (n m : ℕ) (h : Header) (bs head new : List ℕ) → length bs ≡ 512 * (1 + n + m) → length head ≡ 512
+    → take 508 head ≡ numbered 0 (packed (headerNumbers n m h)) → let all = head ++ drop 512 bs in
+    new ≡ sealedBlocks (1 + n + m) all ++ drop (512 * (1 + n + m)) all → new ≡ closedFile n m h bs
+unfolding closedFile sealedBlocks
+file-closed n m h bs head new l lh p q =
+    let all : List ℕ = head ++ drop 512 bs in
+    let count : 1 + n + m ≡ suc (n + m) = omega arith in
+    let none : drop (512 * (1 + n + m)) all ≡ [] =
+    drop-of-length-le all {i = 512 * (1 + n + m)} (omega (arith, length-append head (drop 512 bs), length-drop 512 bs)) in
+    q ∙ rw (none, append-nil, count, take-append-le 508 head (drop 512 bs) (omega arith), p, drop-at head (drop 512 bs) 512 lh)
 
--- these three parts, and then the checksums, make the bytes of the task
-pub written-task : (t : Task) (n m e v w : ℕ) (out head basic rest new : List ℕ) → blockCount t ≡ n → length (t .preempters) ≡ m
-    → length out ≡ 512 * (1 + n + m) → length head ≡ 512 → length basic ≡ 512 * n → length rest ≡ 512 * m → e ≡ 512 + 512 * n → v ≡ 512 * n → w ≡ 512 * m
-    → take 508 head ≡ numbered 0 (packed (taskNumbers t)) → Written 1 (map basicBytes (t .blocks)) basic
-    → Written (1 + n) (map preempterBytes (t .preempters)) rest → let all = putMid e w (putMid 512 v (head ++ drop 512 out) basic) rest in
-    new ≡ sealedBlocks (1 + n + m) all ++ drop (512 * (1 + n + m)) all → new ≡ fileOf t
-unfolding namedBytes
-written-task t n m e v w out head basic rest new cb cp l lh lb lr ee ev ew ph pb pr pn =
-    let bs : List (List ℕ) = map basicBytes (t .blocks) in
-    let ps : List (List ℕ) = map preempterBytes (t .preempters) in
-    let long-b : length bs ≡ n = length-map (t .blocks) basicBytes ∙ cb in
-    let long-p : length ps ≡ m = length-map (t .preempters) preempterBytes ∙ cp in
-    let one : Written 0 (packed (taskNumbers t) ∷ []) head = written-one 0 (packed (taskNumbers t)) head ph in
-    let two : Written 1 (bs ++ ps) (basic ++ rest) = written-append 1 bs ps basic rest (rw long-b lb) pb (rw long-b pr) in
-    written-all t (1 + n + m) (head ++ (basic ++ rest)) new (rw (length-append, long-b, long-p) (omega arith))
-    (omega (arith, length-append head (basic ++ rest), length-append basic rest))
-    (written-append 0 (packed (taskNumbers t) ∷ []) (bs ++ ps) head (basic ++ rest) lh one two)
-    (rw (parts-put n m e v w out head basic rest l lh lb ee ev ew) at pn)
+-- a buffer with all blocks of a task becomes the task's file
+pub task-closed : (t : Task) (n m : ℕ) (old bs : List ℕ) → n ≡ blockCount t → m ≡ length (t .preempters)
+    → Appended 0 (map basicBytes (t .blocks) ++ map preempterBytes (t .preempters)) old bs → closedFile n m (t .header) bs ≡ fileOf t
+unfolding closedFile Appended fileOf namedBytes wholeBlocks sealedBlocks
+task-closed t n m old bs en em a =
+    let names : List (List ℕ) = map basicBytes (t .blocks) ++ map preempterBytes (t .preempters) in
+    let count : n + m ≡ 0 + length names =
+    omega (
+      arith,
+      length-append (map basicBytes (t .blocks)) (map preempterBytes (t .preempters)),
+      length-map (t .blocks) basicBytes,
+      length-map (t .preempters) preempterBytes,
+    ) in
+    rw (count, a, en, em)

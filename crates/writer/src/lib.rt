@@ -1,13 +1,13 @@
-// Task files, written block by block: each function stores one block in 512 lent bytes, all but its checksum. `block::seal_blocks` stores
-// the checksums once all blocks stand, so that four of them are computed side by side.
+// Task files, written block by block, all but the header and the checksums. Once all blocks stand the file is closed, so that the checksums of
+// four blocks are computed side by side.
 ghost use mathlib.Core.Path.{_≡_};
 ghost use mathlib.Core.List.{[], _∷_, _++_};
-ghost use Prim.Native.Nat.{_+_, _*_, _<_, _≤_};
+ghost use Prim.Native.Nat.{_+_, _*_, _%_, _<_, _≤_};
 ghost use lib.ListN.{length, take};
 ghost use Rattle.block.specs.Bytes.{packed};
 ghost use Rattle.block.specs.Blocks.{numbered};
 ghost use Rattle.taskfile.specs.File.{headerNumbers, entryBytes, basicBytes, preempterBytes};
-ghost use Rattle.writer.specs.Writing.{outputRow, storedReads, Written, bodies};
+ghost use Rattle.writer.specs.Writing.{outputRow, storedReads, Appended, closedFile, copies};
 use model::Header;
 use model::Refusal;
 use model::Verdict;
@@ -24,7 +24,7 @@ pub fn check_output(blocks: u32, preempters: u32, length: usize) -> Verdict
 }
 
 // Stores the header of a file with N basic blocks and M preempter blocks. The first two bytes are the kind, 1, and a zero.
-pub fn put_header(block: &mut [u8], blocks: u16, preempters: u16, header: Header)
+fn put_header(block: &mut [u8], blocks: u16, preempters: u16, header: Header)
     requires { ⌜ length (now block) ≡ 512 ⌝ }
     ensures { λ _. ⌜ take 508 (now (block .exit)) ≡ numbered 0 (packed (headerNumbers blocks preempters header)) ⌝ }
 {
@@ -92,27 +92,39 @@ fn copy_block(block: &mut [u8], source: &[u8], number: u32)
     block::close_body(block, 504, number);
 }
 
-// Stores copies of blocks, numbered from first, all but their checksums.
-fn copy_blocks(out: &mut [u8], source: &[u8], first: u32, count: usize)
-    requires { ⌜ (length (now out) ≡ 512 * count) × (length (now source) ≡ 512 * count) × (first ≤ 129) × (count ≤ 64) ⌝ }
-    ensures { λ _. ⌜ Written first (bodies count (now (source .entry))) (now (out .exit)) ⌝ }
+// Stores copies of whole blocks behind block k of a file, numbered on from there, all but their checksums.
+fn copy_blocks(out: &mut [u8], k: usize, source: &[u8])
+    requires { ⌜ (length (now source) % 512 ≡ 0) × (512 * (1 + k) + length (now source) ≤ length (now out)) × (length (now out) ≤ 49664) ⌝ }
+    ensures { λ _. ⌜ Appended k (copies (now (source .entry))) (now (out .entry)) (now (out .exit)) ⌝ }
 {
+    let count = source.len() / 512;
     let mut i = 0;
     while i < count {
-        let start = i * 512;
+        let from = i * 512;
+        let to = from + 512;
+        let number = 1 + k + i;
+        let start = number * 512;
         let end = start + 512;
-        copy_block(&mut out[start..end], &source[start..end], first + i as u32);
+        copy_block(&mut out[start..end], &source[from..to], number as u32);
         i += 1;
     }
 }
 
-// Stores copies of the blocks of one source and then of another, numbered from first, all but their checksums.
-pub fn copy_both(out: &mut [u8], source: &[u8], other: &[u8], first: u32, count: usize, more: usize)
-    requires { ⌜ (length (now source) ≡ 512 * count) × (length (now other) ≡ 512 * more) × (length (now out) ≡ 512 * (count + more)) ⌝ }
-    requires { ⌜ (first ≤ 65) × (count ≤ 64) × (more ≤ 64) ⌝ }
-    ensures { λ _. ⌜ Written first (bodies count (now (source .entry)) ++ bodies more (now (other .entry))) (now (out .exit)) ⌝ }
+// Stores copies of the blocks of one source and then of another behind block k of a file, all but their checksums.
+pub fn copy_both(out: &mut [u8], k: usize, source: &[u8], other: &[u8])
+    requires { ⌜ (length (now source) % 512 ≡ 0) × (length (now other) % 512 ≡ 0) ⌝ }
+    requires { ⌜ (512 * (1 + k) + (length (now source) + length (now other)) ≤ length (now out)) × (length (now out) ≤ 49664) ⌝ }
+    ensures { λ _. ⌜ Appended k (copies (now (source .entry)) ++ copies (now (other .entry))) (now (out .entry)) (now (out .exit)) ⌝ }
 {
-    let middle = 512 * count;
-    copy_blocks(&mut out[..middle], source, first, count);
-    copy_blocks(&mut out[middle..], other, first + count as u32, more);
+    copy_blocks(out, k, source);
+    copy_blocks(out, k + source.len() / 512, other);
+}
+
+// Closes a file whose blocks are stored: its header, and the checksums of all blocks.
+pub fn close_file(out: &mut [u8], blocks: u16, preempters: u16, header: Header)
+    requires { ⌜ length (now out) ≡ 512 * (1 + blocks + preempters) ⌝ }
+    ensures { λ _. ⌜ now (out .exit) ≡ closedFile blocks preempters header (now (out .entry)) ⌝ }
+{
+    put_header(&mut out[..512], blocks, preempters, header);
+    block::seal_blocks(out, 1 + blocks as usize + preempters as usize);
 }

@@ -1,121 +1,115 @@
--- `joining::put_joined` meets its contract: the three parts of the buffer are written, and then all blocks get their checksums.
+-- `joining::put_joined` meets its contract: the basic blocks of both are copied, and the preempter blocks behind them, and the file is closed.
 -- Assumes nothing.
-use Prim.Native.Nat.{_+_, _-_, _*_}
-use mathlib.Core.Path.{sym, _∙_}
-use mathlib.Core.List.{_++_}
+use Prim.Native.Nat.{_+_, _*_, _≤_}
+use mathlib.Core.Path.{_≡_, sym, _∙_}
+use mathlib.Core.List.{map}
+use native.Mathlib.Nat.{zero-add}
 use native.Mathlib.Omega.{arith}
-use lib.ListN.{length, drop, length-take, length-drop}
-use borrow.Rule.Slice.PartMut.{putMid}
-use Rattle.taskfile.specs.File.{taskOf}
-use Rattle.writer.proofs.Laws.{written-task}
-use Rattle.joining.specs.Joining.{joined}
+use lib.ListN.{length, length-map}
 use borrow.Author.Needs.{needs}
+use Rattle.model.specs.Task.{blockCount}
+use Rattle.taskfile.specs.File.{basicBytes, preempterBytes, taskOf}
+use Rattle.writer.proofs.Laws.{appended-both, task-closed}
+use Rattle.joining.specs.Joining.{joined}
+use Rattle.joining.proofs.Tasks as tasks
+use Rattle.joining.proofs.Parts.{basics-length, preempters-length, basics-joined, preempters-joined}
 use Rattle.joining.proofs.put_joined.Statement.{statement}
 use Rattle.joining.proofs.put_joined.Tie as tie
 
-slice-relend-prefix-put-header : tie.Need-slice-relend-prefix-put-header
-slice-relend-prefix-put-header c = search needs
+-- the buffer has room for all parts
+room : (c : tie.Start) → let t = taskOf (c .args .first .now) in
+    let u = taskOf (c .args .second .now) in
+    let out = length (c .args .out .now) in
+    (out ≡ 512 * (1 + c .args .blocks) + 512 * (length (t .preempters) + length (u .preempters))) × (c .args .blocks ≡ blockCount t + blockCount u) × (out ≤ 49664)
+room c =
+    let t = taskOf (c .args .first .now) in
+    let u = taskOf (c .args .second .now) in
+    let totals = c .pre .1 .0 in
+    let n = totals .blocks ∙ tasks.count-joined t u in
+    let m = totals .preempters ∙ tasks.preempters-joined t u in
+    (omega (arith, m), n, omega (arith, totals .fit))
 
-slice-aggregate-put-header : tie.Need-slice-aggregate-put-header
-slice-aggregate-put-header c = simp length-take (omega arith)
+joined-header-requires : tie.Need-joined-header-requires
+joined-header-requires c κs = search needs
 
-put-header-requires : tie.Need-put-header-requires
-put-header-requires c κs =
-    let start = c .before .before .before .before in
-    ((simp length-take (omega arith), start .pre .0 .0, start .pre .0 .1), start .pre .1 .0)
+basic-blocks-requires : tie.Need-basic-blocks-requires
+basic-blocks-requires c κs = search needs
 
-mul-basic-end : tie.Need-mul-basic-end
-mul-basic-end c = search needs
+basic-blocks-requires-2 : tie.Need-basic-blocks-requires-2
+basic-blocks-requires-2 c κs = search needs
 
-add-basic-end : tie.Need-add-basic-end
-add-basic-end c = search needs
+copy-both-requires : tie.Need-copy-both-requires
+copy-both-requires c κs =
+    let start = c .before .before .before .before .before .before .before in
+    let sizes = room start in
+    let one = basics-length (start .args .first .now) (c .before .basic-blocks .result .now) (start .pre .0 .0) (c .before .basic-blocks .ensures) in
+    let other = basics-length (start .args .second .now) (c .basic-blocks2 .result .now) (start .pre .0 .1) (c .basic-blocks2 .ensures) in
+    ((omega (arith, one), omega (arith, other)), (omega (arith, one, other, sizes), omega (arith, sizes)))
 
-sub-put-basics : tie.Need-sub-put-basics
-sub-put-basics c = search needs
+preempter-blocks-requires : tie.Need-preempter-blocks-requires
+preempter-blocks-requires c κs = search needs
 
-part-put-basics-start : tie.Need-part-put-basics-start
-part-put-basics-start c = search needs
+preempter-blocks-requires-2 : tie.Need-preempter-blocks-requires-2
+preempter-blocks-requires-2 c κs = search needs
 
-part-put-basics-end : tie.Need-part-put-basics-end
-part-put-basics-end c = search needs
+copy-both-requires-2 : tie.Need-copy-both-requires-2
+copy-both-requires-2 c κs =
+    let out = c .before .before .before .before in
+    let start = out .before .before .before .before .before .before .before .before .before in
+    let sizes = room start in
+    let one = preempters-length (start .args .first .now) (c .before .preempter-blocks .result .now) (start .pre .0 .0) (c .before .preempter-blocks .ensures) in
+    let other = preempters-length (start .args .second .now) (c .preempter-blocks2 .result .now) (start .pre .0 .1) (c .preempter-blocks2 .ensures) in
+    ((omega (arith, one), omega (arith, other)), (omega (arith, one, other, sizes, out .out .given), omega (arith, sizes, out .out .given)))
 
-put-basics-requires : tie.Need-put-basics-requires
-put-basics-requires c κs = search needs
+cast-close-file : tie.Need-cast-close-file
+cast-close-file c = search needs
 
-sub-put-preempters : tie.Need-sub-put-preempters
-sub-put-preempters c = search needs
+cast-close-file-2 : tie.Need-cast-close-file-2
+cast-close-file-2 c = search needs
 
-part-put-preempters-start : tie.Need-part-put-preempters-start
-part-put-preempters-start c = search needs
-
-part-put-preempters-end : tie.Need-part-put-preempters-end
-part-put-preempters-end c = search needs
-
-cast-put-preempters : tie.Need-cast-put-preempters
-cast-put-preempters c = search needs
-
-add-put-preempters : tie.Need-add-put-preempters
-add-put-preempters c = search needs
-
-put-preempters-requires : tie.Need-put-preempters-requires
-put-preempters-requires c κs =
-    let start = c .before .before .before .before .before .before .before .before .before .before .before .before in
-    ((start .pre .0 .0, start .pre .0 .1, omega arith), search needs)
-
-add-seal-blocks : tie.Need-add-seal-blocks
-add-seal-blocks c = search needs
-
-add-seal-blocks-2 : tie.Need-add-seal-blocks-2
-add-seal-blocks-2 c = search needs
-
-seal-blocks-requires : tie.Need-seal-blocks-requires
-seal-blocks-requires c κs = search needs
+close-file-requires : tie.Need-close-file-requires
+close-file-requires c κs = search needs
 
 same-length : tie.Need-same-length
 same-length c = search needs
 
 returns : tie.Need-returns
 returns c =
-    let sealed = c .before .before in
-    let third = sealed .before .before .before in
-    let preempters = third .before in
-    let second = preempters .before .before .before in
-    let basics = second .before in
-    let first = basics .before .before .before in
-    let header = first .before in
-    let start = header .before .before .before .before .before in
+    let closed = c .before .before in
+    let preempters = closed .before .before .before .before in
+    let basics = preempters .before .before .before .before .before .before in
+    let made = basics .before .before .before .before in
+    let start = made .before .before .before .before in
     let args = start .args in
+    let first = args .first .now in
+    let second = args .second .now in
+    let t = joined (taskOf first) (taskOf second) in
     let totals = start .pre .1 .0 in
-    let end = 512 + 512 * args .blocks in
-    let two = putMid 512 (end - 512) (header .put-header .last .0 ++ drop 512 (args .out .now)) (basics .put-basics .last .0) in
-    written-task (joined (taskOf (args .first .now)) (taskOf (args .second .now))) (args .blocks) (args .preempters) end (end - 512) (length two - end)
-    (args .out .now) (header .put-header .last .0) (basics .put-basics .last .0) (preempters .put-preempters .last .0) (sealed .seal-blocks .last .0)
-    (sym (totals .blocks)) (sym (totals .preempters)) (omega arith) (first .out .given .0 ∙ simp length-take (omega arith))
-    (second .out2 .given .0 ∙ simp (length-take, length-drop) (omega arith)) (third .out3 .given .0 ∙ simp (length-take, length-drop) (omega arith))
-    (omega arith) (omega arith) (omega arith) (header .put-header .ensures) (basics .put-basics .ensures) (preempters .put-preempters .ensures)
-    (sealed .seal-blocks .ensures)
+    let bs = map basicBytes (t .blocks) in
+    let ps = map preempterBytes (t .preempters) in
+    let behind : args .blocks ≡ 0 + length bs = totals .blocks ∙ sym (length-map (t .blocks) basicBytes) ∙ sym (zero-add (length bs)) in
+    let a = basics-joined first second (start .pre .0 .0) (start .pre .0 .1) 0 _ _ (args .out .now) (basics .copy-both .last .0) (basics .copy-both .ensures)
+    (basics .before .before .basic-blocks .ensures) (basics .before .basic-blocks2 .ensures) in
+    let b = preempters-joined first second (start .pre .0 .0) (start .pre .0 .1) (args .blocks) _ _ (basics .copy-both .last .0) (preempters .copy-both2 .last .0)
+    (preempters .copy-both2 .ensures) (preempters .before .before .preempter-blocks .ensures) (preempters .before .preempter-blocks2 .ensures) in
+    closed .close-file .ensures ∙
+    rw (made .joined-header .ensures)
+    (task-closed t (args .blocks) (args .preempters) (args .out .now) (preempters .copy-both2 .last .0) (totals .blocks) (totals .preempters)
+    (appended-both 0 bs ps (args .out .now) (basics .copy-both .last .0) (preempters .copy-both2 .last .0) a (rw behind at b)))
 
 pub put-joined-spec : {M : Type 1} → statement M
 put-joined-spec =
     tie.close
     (tie.spec
-    slice-relend-prefix-put-header
-    slice-aggregate-put-header
-    put-header-requires
-    mul-basic-end
-    add-basic-end
-    sub-put-basics
-    part-put-basics-start
-    part-put-basics-end
-    put-basics-requires
-    sub-put-preempters
-    part-put-preempters-start
-    part-put-preempters-end
-    cast-put-preempters
-    add-put-preempters
-    put-preempters-requires
-    add-seal-blocks
-    add-seal-blocks-2
-    seal-blocks-requires
+    joined-header-requires
+    basic-blocks-requires
+    basic-blocks-requires-2
+    copy-both-requires
+    preempter-blocks-requires
+    preempter-blocks-requires-2
+    copy-both-requires-2
+    cast-close-file
+    cast-close-file-2
+    close-file-requires
     same-length
     returns)

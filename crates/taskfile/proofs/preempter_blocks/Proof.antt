@@ -1,6 +1,6 @@
 -- `taskfile::preempter_blocks` meets its contract: behind its basic blocks an accepted file has its preempter blocks.
 -- Assumes nothing.
-use Prim.Native.Nat.{_+_, _-_, _*_, _≤_}
+use Prim.Native.Nat.{_+_, _-_, _*_}
 use mathlib.Core.Path.{_≡_}
 use native.Mathlib.Omega.{arith}
 use lib.ListN.{length}

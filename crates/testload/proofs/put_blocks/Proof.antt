@@ -1,4 +1,4 @@
--- `testload::put_blocks` meets its contract. The loop's invariant: the first `i` basic blocks are written, and the state is the one after them.
+-- `testload::put_blocks` meets its contract. The loop's invariant: the first `i` basic blocks are appended, and the state is the one after them.
 -- Assumes nothing.
 use Prim.Native.Nat.{_+_, _-_, _*_, _≤_}
 use mathlib.Core.Path.{_≡_, refl, sym, ap, _∙_}
@@ -8,8 +8,8 @@ use native.Mathlib.Numerals.{add-one}
 use lib.ListN.{length, length-take, length-drop}
 use borrow.Author.Needs.{needs}
 use Rattle.taskfile.specs.File.{basicBytes}
-use Rattle.writer.specs.Writing.{Written}
-use Rattle.writer.proofs.Laws.{written-none}
+use Rattle.writer.specs.Writing.{Appended}
+use Rattle.writer.proofs.Laws.{appended-none}
 use Rattle.testload.specs.Draws.{after, drawnList, drawnBlock, afterBlock}
 use Rattle.testload.proofs.Draws.{after-snoc, block-more}
 use Rattle.testload.proofs.put_blocks.Statement.{statement}
@@ -17,7 +17,7 @@ use Rattle.testload.proofs.put_blocks.Tie as tie
 
 abbrev Inv-loop : tie.InvT-loop
 Inv-loop out₀ count state current₀ i₀ out current i =
-    (i ≤ count) × (length out ≡ length out₀) × Written 1 (map basicBytes (drawnList drawnBlock afterBlock 0 i state)) out ×
+    (i ≤ count) × (length out ≡ length out₀) × Appended 0 (map basicBytes (drawnList drawnBlock afterBlock 0 i state)) out₀ out ×
     (current ≡ after afterBlock i state)
 
 abbrev μ-loop : tie.MeasureT-loop
@@ -25,7 +25,10 @@ abbrev μ-loop : tie.MeasureT-loop
 
 loop-holds : tie.Need-loop-holds Inv-loop μ-loop
 unfolding after drawnList
-loop-holds c = (search needs, refl, written-none 1 (c .before .args .out .now), refl)
+loop-holds c = (search needs, refl, appended-none 0 (c .before .args .out .now), refl)
+
+add-start : tie.Need-add-start Inv-loop μ-loop
+add-start c = search needs
 
 mul-start : tie.Need-mul-start Inv-loop μ-loop
 mul-start c = search needs
@@ -59,11 +62,11 @@ loop-again c =
     let put = c .before .before in
     let loop = put .before .before .before .loop in
     let args = put .before .before .before .before .before .args in
-    let from = loop .i * 512 in
+    let from = (1 + loop .i) * 512 in
     let size = from + 512 - from in (
       search needs,
       search needs,
-      rw add-one (block-more basicBytes drawnBlock afterBlock 1 (loop .i) (args .state) (loop .current) size (loop .out) (put .put-block .last .0) (omega arith)
+      rw add-one (block-more basicBytes drawnBlock afterBlock 0 (loop .i) (args .state) (loop .current) size (args .out .now) (loop .out) (put .put-block .last .0) (omega arith)
           (c .before .out .given .0 ∙ simp (length-take, length-drop) (omega arith)) (loop .inv .2) (loop .inv .3) (put .put-block .ensures .0)),
       rw add-one (put .put-block .ensures .1 ∙ ap afterBlock (loop .inv .3) ∙ sym (after-snoc afterBlock (loop .i) (args .state))),
     )
@@ -84,6 +87,7 @@ put-blocks-spec =
     Inv-loop
     μ-loop
     loop-holds
+    add-start
     mul-start
     add-end
     sub-put-block

@@ -1,27 +1,43 @@
--- `writer::copy_blocks` meets its contract. The loop's invariant: the first `i` blocks are written.
+-- `writer::copy_blocks` meets its contract. The loop's invariant: copies of the first `i` blocks are appended.
 -- Assumes nothing.
-use Prim.Native.Nat.{_+_, _-_, _*_, _≤_}
+use Prim.Native.Nat.{_+_, _-_, _*_, _/_, _≤_}
 use mathlib.Core.Path.{_≡_, refl, ap, _∙_}
 use native.Mathlib.Omega.{arith}
 use native.Mathlib.Numerals.{add-one}
 use lib.ListN.{length, take, drop, length-take, length-drop}
 use borrow.Author.Needs.{needs}
-use Rattle.writer.specs.Writing.{Written, bodies}
-use Rattle.writer.proofs.Laws.{written-none, written-more}
 use Rattle.block.specs.Blocks.{numbered}
+use Rattle.taskfile.specs.File.{blocksIn}
+use Rattle.writer.specs.Writing.{Appended, bodies}
+use Rattle.writer.proofs.Laws.{appended-none, appended-more}
 use Rattle.writer.proofs.Copying.{body-at, length-bodies, bodies-snoc}
 use Rattle.writer.proofs.copy_blocks.Statement.{statement}
 use Rattle.writer.proofs.copy_blocks.Tie as tie
 
 abbrev Inv-loop : tie.InvT-loop
-Inv-loop out₀ source first count i₀ out i = (i ≤ count) × (length out ≡ length out₀) × Written first (bodies i source) out
+Inv-loop out₀ k source count i₀ out i =
+    (i ≤ length source / 512) × (length out ≡ length out₀) × Appended k (bodies i source) out₀ out
 
 abbrev μ-loop : tie.MeasureT-loop
-μ-loop out₀ source first count i₀ out i = count - i
+μ-loop out₀ k source count i₀ out i = length source / 512 - i
 
 loop-holds : tie.Need-loop-holds Inv-loop μ-loop
 unfolding bodies
-loop-holds c = (search needs, refl, written-none (c .before .before .args .first) (c .before .before .args .out .now))
+loop-holds c =
+    let args = c .before .before .args in
+    (search needs, refl, appended-none (args .k) (args .out .now))
+
+mul-from : tie.Need-mul-from Inv-loop μ-loop
+mul-from c = search needs
+
+add-to : tie.Need-add-to Inv-loop μ-loop
+add-to c = search needs
+
+add-number : tie.Need-add-number Inv-loop μ-loop
+add-number c = search needs
+
+add-number-2 : tie.Need-add-number-2 Inv-loop μ-loop
+add-number-2 c = search needs
 
 mul-start : tie.Need-mul-start Inv-loop μ-loop
 mul-start c = search needs
@@ -50,9 +66,6 @@ part-copy-block-end-2 c = search needs
 cast-copy-block : tie.Need-cast-copy-block Inv-loop μ-loop
 cast-copy-block c = search needs
 
-add-copy-block : tie.Need-add-copy-block Inv-loop μ-loop
-add-copy-block c = search needs
-
 copy-block-requires : tie.Need-copy-block-requires Inv-loop μ-loop
 copy-block-requires c κs = (simp (length-take, length-drop) (omega arith), simp (length-take, length-drop) (omega arith))
 
@@ -68,24 +81,26 @@ loop-again c =
     let loop = copied .before .before .before .before .loop in
     let args = copied .before .before .before .before .before .before .before .args in
     let from = loop .i * 512 in
-    let size = from + 512 - from in
+    let number = 1 + args .k + loop .i in
+    let start = number * 512 in
     let source = args .source .now in
     let long : length (copied .copy-block .last .0) ≡ 512 = c .before .out .given .0 ∙ simp (length-take, length-drop) (omega arith) in
-    let body = copied .copy-block .ensures ∙ ap (numbered (args .first + loop .i)) (body-at (loop .i) from size source (omega arith) (omega arith)) in (
+    let body = copied .copy-block .ensures ∙ ap (numbered number) (body-at (loop .i) from (from + 512 - from) source (omega arith) (omega arith)) in (
       search needs,
       search needs,
       rw (add-one, bodies-snoc (loop .i) source)
-          (written-more (args .first) from size (bodies (loop .i) source) (take 504 (drop (512 * loop .i) source)) (loop .out) (copied .copy-block .last .0)
-          (rw length-bodies (omega arith)) (omega arith) (omega arith) (loop .inv .2) (rw length-bodies body)),
+          (appended-more (args .k) start (start + 512 - start) (bodies (loop .i) source) (take 504 (drop (512 * loop .i) source)) (args .out .now) (loop .out)
+          (copied .copy-block .last .0) (rw length-bodies (omega arith)) (omega arith) (omega arith) (loop .inv .2) (rw length-bodies body)),
     )
 
 same-length : tie.Need-same-length Inv-loop μ-loop
 same-length c = search needs
 
 returns : tie.Need-returns Inv-loop μ-loop
+unfolding blocksIn
 returns c =
     let loop = c .before .loop in
-    let all : loop .i ≡ c .before .before .before .before .args .count = omega arith in
+    let all : loop .i ≡ length (c .before .before .before .before .args .source .now) / 512 = omega arith in
     rw (← all) (loop .inv .2)
 
 pub copy-blocks-spec : {M : Type 1} → statement M
@@ -95,6 +110,10 @@ copy-blocks-spec =
     Inv-loop
     μ-loop
     loop-holds
+    mul-from
+    add-to
+    add-number
+    add-number-2
     mul-start
     add-end
     sub-copy-block
@@ -104,7 +123,6 @@ copy-blocks-spec =
     part-copy-block-start-2
     part-copy-block-end-2
     cast-copy-block
-    add-copy-block
     copy-block-requires
     add-i
     loop-less

@@ -24,7 +24,7 @@ fn all_zero(bytes: &[u8]) -> bool {
 pub fn refusal(number: u32, place: usize) -> Refusal {
     Refusal {
         number,
-        place: place as u32,
+        place,
     }
 }
 

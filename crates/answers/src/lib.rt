@@ -1,7 +1,7 @@
-// What the answers of a call come to: a refusal's number and place, the first of two verdicts and whose it is, and what a C call returns.
+// What the answers of a call come to: a refusal's number and place, the first of two verdicts and whose it is, and the refusal of an output's length.
 ghost use mathlib.Core.Path.{_≡_};
-ghost use Prim.Native.Nat.{_≤_};
-ghost use Rattle.model.specs.Answers.{number, place, placeOf, verdictPlace, andThen, mostBlocks};
+ghost use Prim.Native.Nat.{_<_, _^_};
+ghost use Rattle.model.specs.Answers.{number, place, verdictNumber, verdictPlace, placeOf, andThen, outputRow};
 ghost use Rattle.model.specs.Answers as Answers;
 ghost use Rattle.model.specs.Planning.{noPlan};
 use model::Input;
@@ -75,26 +75,48 @@ pub fn whose(first: Verdict, second: Verdict) -> Input
     }
 }
 
-// The place of an input's refusal.
-pub fn place_of(input: Input, refusal: Refusal) -> usize
-    requires { ⌜ place refusal ≤ mostBlocks ⌝ }
-    ensures { λ r. ⌜ r ≡ placeOf input refusal ⌝ }
-{
-    match input {
-        Input::First => refusal_place(refusal),
-        Input::Second => refusal_place(refusal) + MOST_BLOCKS,
-    }
-}
-
-// What a C call returns.
-pub fn returned(input: Input, verdict: Verdict) -> u32
-    requires { ⌜ verdictPlace verdict ≤ mostBlocks ⌝ }
-    ensures { λ r. ⌜ r ≡ Answers.returned input verdict ⌝ }
+// A verdict's number, 0 where it accepts.
+pub fn verdict_number(verdict: Verdict) -> u32
+    ensures { λ r. ⌜ r ≡ verdictNumber verdict ⌝ }
 {
     match verdict {
         Verdict::Accepted => 0,
-        Verdict::Refused(refusal) => refusal_number(refusal) * 65536
-            + place_of(input, refusal) as u32,
+        Verdict::Refused(refusal) => refusal_number(refusal),
+    }
+}
+
+// A verdict's place, 0 where it accepts.
+pub fn verdict_place(verdict: Verdict) -> usize
+    ensures { λ r. ⌜ r ≡ verdictPlace verdict ⌝ }
+{
+    match verdict {
+        Verdict::Accepted => 0,
+        Verdict::Refused(refusal) => refusal_place(refusal),
+    }
+}
+
+// The place of a verdict of one of two inputs, for the calls that answer it beside the verdict.
+pub fn place_of(input: Input, verdict: Verdict) -> usize
+    requires { ⌜ placeOf input verdict < 2 ^ 64 ⌝ }
+    ensures { λ r. ⌜ r ≡ placeOf input verdict ⌝ }
+{
+    match input {
+        Input::First => verdict_place(verdict),
+        Input::Second => match verdict {
+            Verdict::Accepted => 0,
+            Verdict::Refused(refusal) => refusal_place(refusal) + MOST_BLOCKS,
+        },
+    }
+}
+
+// Refuses an output that is not of this size.
+pub fn check_output(size: usize, length: usize) -> Verdict
+    ensures { λ r. ⌜ r ≡ outputRow size length ⌝ }
+{
+    if length == size {
+        Verdict::Accepted
+    } else {
+        Verdict::Refused(Refusal::Output)
     }
 }
 

@@ -19,12 +19,9 @@ fn joined_length(first: usize, second: usize) -> usize
 fn write_joined(first: &[u8], second: &[u8], out: &mut [u8]) {
     let joined = joining::join(first, second, out);
     let verdict = joined.verdict;
-    let input = joined.input;
     match verdict {
         Verdict::Accepted => desk::print(out),
-        Verdict::Refused(refusal) => {
-            desk::report_refusal(refusal, answers::place_of(input, refusal))
-        }
+        Verdict::Refused(refusal) => desk::report_refusal(refusal, joined.place),
     }
 }
 

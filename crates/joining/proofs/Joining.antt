@@ -6,14 +6,12 @@ use mathlib.Core.Path.{_≡_, refl, sym, ap, _∙_}
 use mathlib.Core.List.{List}
 use native.Mathlib.Omega.{arith}
 use lib.ListN.{length}
-use borrow.Author.Tests.{eq-eqb}
 use Rattle.model.specs.Task.{Task, blockCount}
 use Rattle.model.specs.declared.Verdict.the-variants.{Accepted}
-use Rattle.model.proofs.Verdicts.{both-accepted}
+use Rattle.model.proofs.Verdicts.{both-accepted, output-accepts}
 use Rattle.taskfile.specs.File.{taskOf, fileOf, verdict}
 use Rattle.taskfile.proofs.Files.{accepted-within}
 use Rattle.taskfile.proofs.Tasks.{length-file, file-then-task}
-use Rattle.writer.specs.Writing.{outputRow}
 use Rattle.joining.specs.Joining.{joinedHeader, joined}
 use Rattle.joining.specs.Calls.{agreeRow, totalsRow, joinRows, joinVerdict, joinLeft}
 use Rattle.joining.specs.Statements.{JoinedAccepted, JoinedInOrder, FirstContained, SecondContained}
@@ -56,14 +54,14 @@ second-contained first second out e k c h =
 join-accepts : (first second out : List ℕ) → verdict first ≡ Accepted → verdict second ≡ Accepted → Agreeing (taskOf first) (taskOf second)
     → blockCount (joined (taskOf first) (taskOf second)) ≤ 64 → length (joined (taskOf first) (taskOf second) .preempters) ≤ 32
     → length out ≡ length (fileOf (joined (taskOf first) (taskOf second))) → joinVerdict first second out ≡ Accepted
-unfolding joinVerdict joinRows agreeRow totalsRow outputRow
+unfolding joinVerdict joinRows agreeRow totalsRow
 join-accepts first second out e f a h l long =
     let t : Task = taskOf first in
     let u : Task = taskOf second in
     let agreed = agreeing-agree t u a in
     let fit = few-fit _ _ h l in
     let size = length-file (joined t u) (within-joined t u (accepted-within first e) (accepted-within second f) fit) in
-    rw (e, f, agreed, fit, eq-eqb (length out) _ (long ∙ size))
+    rw (e, f, agreed, fit, output-accepts _ (length out) (long ∙ size))
 
 -- a joined task agrees with what both of its parts agree with
 agree-left : (t u v : Task) → Agreeing t u → Agreeing u v → Agreeing (joined t u) v
@@ -75,7 +73,7 @@ unfolding joined joinedHeader
 agree-right t u v a = record { lines = a .lines; reloads = a .reloads; ranges = a .ranges }
 
 pub joined-in-order : JoinedInOrder
-joined-in-order f g h two other three a b c all l₁ l₂ l₃ =
+joined-in-order f g h two other three last a b c all l₁ l₂ l₃ l₄ =
     let t : Task = taskOf f in
     let u : Task = taskOf g in
     let v : Task = taskOf h in
@@ -94,8 +92,8 @@ joined-in-order f g h two other three a b c all l₁ l₂ l₃ =
     let back = made g h other (join-accepts g h other b c uv (omega arith) (omega arith) l₂) in
     let front-first = join-accepts (joinLeft f g two) h three (front .0) c (rw (front .1) (agree-left t u v tu uv)) (rw (front .1) (omega arith)) (rw (front .1) (omega arith))
     (rw (front .1) l₃) in
-    let back-first = join-accepts f (joinLeft g h other) three a (back .0) (rw (back .1) (agree-right t u v tu)) (rw (back .1) (omega arith)) (rw (back .1) (omega arith))
-    (rw (back .1, ← joined-assoc t u v) l₃) in (
+    let back-first = join-accepts f (joinLeft g h other) last a (back .0) (rw (back .1) (agree-right t u v tu)) (rw (back .1) (omega arith)) (rw (back .1) (omega arith))
+    (rw (back .1, ← joined-assoc t u v) (l₄ ∙ l₃)) in (
       front-first,
       back-first,
       left _ _ _ front-first ∙ ap (λ (x : Task). fileOf (joined x v)) (front .1) ∙ ap fileOf (joined-assoc t u v) ∙

@@ -1,21 +1,24 @@
--- The places of a join's refusals are at most 97, so that what is added for the second file keeps them apart.
+-- The places of a join's refusals are at most 97, so that 97 can be added to those of the second file.
 -- Assumes nothing.
-use Prim.Native.Nat.{ℕ, _+_, _*_, _≤_}
+use Prim.Native.Nat.{ℕ, _^_, _<_, _≤_}
+use mathlib.Core.Path.{_≡_}
 use mathlib.Core.List.{List}
 use native.Mathlib.Omega.{arith}
 use lib.Dec.{eqb}
 use lib.ListN.{length}
 use Rattle.model.specs.Task.{blockCount}
-use Rattle.model.specs.Answers.{verdictPlace, mostBlocks}
+use Rattle.model.specs.Answers.{verdictPlace, placeOf, outputRow, mostBlocks}
+use Rattle.model.specs.declared.Input.{Input}
 use Rattle.model.specs.declared.Refusal.the-variants.{Output, Mismatch, TooManyBlocks}
-use Rattle.model.proofs.Places.{then-most, test-most}
+use Rattle.model.specs.declared.Verdict.{Verdict}
+use Rattle.model.proofs.Places.{then-most, test-most, of-most}
 use Rattle.taskfile.specs.File.{taskOf, verdict}
 use Rattle.taskfile.proofs.Places.{verdict-most}
-use Rattle.writer.specs.Writing.{outputRow}
+use Rattle.writer.specs.Writing.{fileSize}
 use Rattle.joining.specs.Joining.{joined, agree, countsFit}
 use Rattle.joining.specs.Calls.{agreeRow, totalsRow, joinRows, joinVerdict}
 
-pub join-most : (first second out : List ℕ) → verdictPlace (joinVerdict first second out) ≤ mostBlocks
+join-most : (first second out : List ℕ) → verdictPlace (joinVerdict first second out) ≤ mostBlocks
 unfolding joinVerdict joinRows agreeRow totalsRow outputRow
 join-most first second out =
     let t = taskOf first in
@@ -26,4 +29,9 @@ join-most first second out =
     (λ a. then-most (verdict second) _ mostBlocks (verdict-most second)
     (λ b. then-most (agreeRow t u) _ mostBlocks (test-most (agree t u) Mismatch mostBlocks (omega arith))
     (λ c. then-most (totalsRow n m) _ mostBlocks (test-most (countsFit n m) TooManyBlocks mostBlocks (omega arith))
-    (λ d. test-most (eqb (length out) (512 * (1 + n + m))) Output mostBlocks (omega arith)))))
+    (λ d. test-most (eqb (length out) (fileSize n m)) Output mostBlocks (omega arith)))))
+
+pub place-fits : (i : Input) (v : Verdict) (first second out : List ℕ) → v ≡ joinVerdict first second out → placeOf i v < 2 ^ 64
+place-fits i v first second out e =
+    let small : verdictPlace v ≤ mostBlocks = rw e (join-most first second out) in
+    omega (arith, of-most i v)

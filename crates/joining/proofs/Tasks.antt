@@ -9,14 +9,15 @@ use lib.Dec.{eqb, leb}
 use lib.ListN.{length, length-append}
 use borrow.Author.Tests.{eqb-true, leb-true, eq-eqb, le-leb}
 use Rattle.model.specs.Task.{Task, blockCount, lineCount}
-use Rattle.model.specs.declared.Refusal.the-variants.{Output, Mismatch, TooManyBlocks}
+use Rattle.model.specs.Answers.{outputRow}
+use Rattle.model.specs.declared.Refusal.the-variants.{Mismatch, TooManyBlocks}
 use Rattle.model.specs.declared.Verdict.the-variants.{Accepted}
-use Rattle.model.proofs.Verdicts.{row-holds, both-accepted}
+use Rattle.model.proofs.Verdicts.{both-accepted, row-holds, output-size}
 use Rattle.block.specs.Bytes.{Each}
 use Rattle.block.proofs.Each.{each-append}
 use Rattle.taskfile.specs.File.{countsInRange, headerInRange, headerNumbers, EntryWithin, Within}
 use Rattle.taskfile.proofs.Accepted.{in-range}
-use Rattle.writer.specs.Writing.{outputRow}
+use Rattle.writer.specs.Writing.{fileSize}
 use Rattle.joining.specs.Joining.{joinedHeader, joined, agree, countsFit}
 use Rattle.joining.specs.Calls.{agreeRow, totalsRow, joinRows}
 
@@ -68,16 +69,16 @@ pub record RowsAccept (t u : Task) (size : ℕ) : Type 0 where
   pub long : size ≡ 512 * (1 + blockCount (joined t u) + length (joined t u .preempters))
 
 pub rows-accept : (t u : Task) (size : ℕ) → joinRows t u size ≡ Accepted → RowsAccept t u size
-unfolding joinRows agreeRow totalsRow outputRow
+unfolding joinRows agreeRow totalsRow
 rows-accept t u size e =
     let n = blockCount (joined t u) in
     let m = length (joined t u .preempters) in
     let first = both-accepted (agreeRow t u) _ e in
-    let second = both-accepted (totalsRow n m) (outputRow n m size) (first .1) in
+    let second = both-accepted (totalsRow n m) (outputRow (fileSize n m) size) (first .1) in
     record {
       agreed = row-holds Mismatch _ (first .0);
       fit = row-holds TooManyBlocks _ (second .0);
-      long = eqb-true size _ (row-holds Output _ (second .1));
+      long = output-size (fileSize n m) size (second .1);
     }
 
 -- the joined task is within the limits of a file

@@ -4,13 +4,13 @@ use mathlib.Core.Bool.{cond}
 use mathlib.Core.List.{List}
 use lib.ListN.{length}
 use Rattle.model.specs.Task.{Task, blockCount}
-use Rattle.model.specs.Answers.{onAccepted, andThen, whose}
+use Rattle.model.specs.Answers.{onAccepted, andThen, whose, placeOf, outputRow}
 use Rattle.model.specs.declared.Input.{Input}
 use Rattle.model.specs.declared.Refusal.the-variants.{Mismatch, TooManyBlocks}
 use Rattle.model.specs.declared.Verdict.{Verdict}
 use Rattle.model.specs.declared.Verdict.the-variants.{Accepted, Refused}
 use Rattle.taskfile.specs.File.{taskOf, fileOf, verdict}
-use Rattle.writer.specs.Writing.{outputRow}
+use Rattle.writer.specs.Writing.{fileSize}
 use Rattle.joining.specs.Joining.{joined, agree, countsFit}
 
 -- refusal 11: S, R or the scratch range differ
@@ -26,7 +26,7 @@ unfoldable pub joinRows : Task → Task → ℕ → Verdict
 joinRows t u size =
     let n = blockCount (joined t u) in
     let m = length (joined t u .preempters) in
-    andThen (agreeRow t u) (andThen (totalsRow n m) (outputRow n m size))
+    andThen (agreeRow t u) (andThen (totalsRow n m) (outputRow (fileSize n m) size))
 
 -- the answer: the first file's refusals, then the second's, then these rows
 unfoldable pub joinVerdict : List ℕ → List ℕ → List ℕ → Verdict
@@ -35,6 +35,10 @@ joinVerdict first second out = andThen (verdict first) (andThen (verdict second)
 -- whose refusal that is
 abbrev pub joinInput : List ℕ → List ℕ → Input
 joinInput first second = whose (verdict first) (verdict second)
+
+-- and its place: 97 is added to the second file's
+unfoldable pub joinPlace : List ℕ → List ℕ → List ℕ → ℕ
+joinPlace first second out = placeOf (joinInput first second) (joinVerdict first second out)
 
 -- the buffer after the call: the bytes of the joined task, and on a refusal what it held
 unfoldable pub joinLeft : List ℕ → List ℕ → List ℕ → List ℕ

@@ -23,14 +23,14 @@ pub record ThreeAgree (t u v : Task) : Type 0 where
   pub last-two : agree u v ≡ true
   pub totals : countsFit (blockCount t + blockCount u + blockCount v) (length (t .preempters) + length (u .preempters) + length (v .preempters)) ≡ true
 
--- three such files, in buffers of the joined lengths: the same bytes, whether the first two or the last two are joined first
+-- three such files, in buffers of the joined lengths, whatever these held: the same bytes, whether the first two or the last two are joined first
 abbrev pub JoinedInOrder : Type 0
 JoinedInOrder =
-    (f g h two other three : List ℕ) → IsAccepted f → IsAccepted g → IsAccepted h → ThreeAgree (taskOf f) (taskOf g) (taskOf h)
+    (f g h two other three last : List ℕ) → IsAccepted f → IsAccepted g → IsAccepted h → ThreeAgree (taskOf f) (taskOf g) (taskOf h)
     → length two ≡ length (fileOf (joined (taskOf f) (taskOf g))) → length other ≡ length (fileOf (joined (taskOf g) (taskOf h)))
-    → length three ≡ length (fileOf (joined (joined (taskOf f) (taskOf g)) (taskOf h)))
-    → (joinVerdict (joinLeft f g two) h three ≡ Accepted) × (joinVerdict f (joinLeft g h other) three ≡ Accepted) ×
-    (joinLeft (joinLeft f g two) h three ≡ joinLeft f (joinLeft g h other) three)
+    → length three ≡ length (fileOf (joined (joined (taskOf f) (taskOf g)) (taskOf h))) → length last ≡ length three
+    → (joinVerdict (joinLeft f g two) h three ≡ Accepted) × (joinVerdict f (joinLeft g h other) last ≡ Accepted) ×
+    (joinLeft (joinLeft f g two) h three ≡ joinLeft f (joinLeft g h other) last)
 
 -- U of the first file at each edge is contained in U of the joined file there
 abbrev pub FirstContained : Type 0

@@ -6,16 +6,15 @@ ghost use lib.ListN.{length};
 ghost use Rattle.model.specs.Answers.{onAccepted};
 ghost use Rattle.taskfile.specs.File.{taskOf, fileOf, IsAccepted};
 ghost use Rattle.joining.specs.Joining.{joined, agree, Totals};
-ghost use Rattle.joining.specs.Calls.{agreeRow, totalsRow, joinRows, joinVerdict, joinInput, joinLeft};
+ghost use Rattle.joining.specs.Calls.{agreeRow, totalsRow, joinRows, joinVerdict, joinPlace, joinLeft};
 use model::Header;
-use model::Input;
 use model::Refusal;
 use model::Verdict;
 
-// The answer of a join, and whose refusal it is.
+// The answer of a join, and the place of a refusal.
 pub struct Joined {
     pub verdict: Verdict,
-    pub input: Input,
+    pub place: usize,
 }
 
 // The smaller of two numbers.
@@ -113,8 +112,10 @@ fn join_accepted(out: &mut [u8], first: &[u8], second: &[u8]) -> Verdict
     let preempters = taskfile::preempter_count(first) + taskfile::preempter_count(second);
     let agree = check_agree(first, second);
     let counts = check_totals(blocks, preempters);
-    let output = writer::check_output(blocks as u32, preempters as u32, out.len());
-    let verdict = answers::earlier(agree, answers::earlier(counts, output));
+    let size = writer::file_size(blocks as u32, preempters as u32);
+    let output = answers::check_output(size, out.len());
+    let later = answers::earlier(counts, output);
+    let verdict = answers::earlier(agree, later);
     match verdict {
         Verdict::Accepted => put_joined(out, first, second, blocks, preempters),
         Verdict::Refused(_) => {}
@@ -126,7 +127,7 @@ fn join_accepted(out: &mut [u8], first: &[u8], second: &[u8]) -> Verdict
 // refusal the buffer stays what it was.
 pub fn join(first: &[u8], second: &[u8], out: &mut [u8]) -> Joined
     ensures { λ r. ⌜ r .verdict ≡ joinVerdict (now (first .entry)) (now (second .entry)) (now (out .entry)) ⌝ }
-    ensures { λ r. ⌜ r .input ≡ joinInput (now (first .entry)) (now (second .entry)) ⌝ }
+    ensures { λ r. ⌜ r .place ≡ joinPlace (now (first .entry)) (now (second .entry)) (now (out .entry)) ⌝ }
     ensures { λ _. ⌜ now (out .exit) ≡ joinLeft (now (first .entry)) (now (second .entry)) (now (out .entry)) ⌝ }
 {
     let first_checked = taskfile::check(first);
@@ -136,9 +137,12 @@ pub fn join(first: &[u8], second: &[u8], out: &mut [u8]) -> Joined
     let Verdict::Accepted = checked else {
         return Joined {
             verdict: checked,
-            input,
+            place: answers::place_of(input, checked),
         };
     };
     let verdict = join_accepted(out, first, second);
-    Joined { verdict, input }
+    Joined {
+        verdict,
+        place: answers::place_of(input, verdict),
+    }
 }

@@ -8,12 +8,13 @@ use lib.Dec.{eqb, leb, ltb}
 use lib.ListN.{length, getD, take, drop}
 use lib.Seq.{take-suc, drop-length}
 use borrow.Author.Tests.{ne-eqb, le-ltb, leb-true}
-use mathlib.Core.Path.{_≡_, refl, sym, ap, _∙_}
+use mathlib.Core.Path.{_≡_, refl, sym, ap, _∙_, fun-ext}
 use mathlib.Core.Bool.{Bool, true, false, cond, _&&_, _||_, or-assoc, or-false, true≢false}
 use mathlib.Core.List.{List, [], _∷_, _++_}
 use Rattle.model.specs.Task.{Task, blockCount, lineCount}
-use Rattle.model.specs.Lines.{bypasses, lineOf, isLine, onLine, lastRead, firstRead, anyRead, sameBlock, readsOf, preempterReads, stateAfter, nextRead, useful, evicted}
-use Rattle.model.specs.Laws.{EmptyNotUseful, UsefulStart, UsefulEnd, NoScratch}
+use Rattle.model.specs.Lines.{bypasses, lineOf, isLine, onLine, lastRead, firstRead, anyRead, sameBlock, readsOf, preempterReads, stateAfter, nextRead, readsLookedAt, useful, accessed, evicted}
+use Rattle.model.specs.Replay.{miss, fetch}
+use Rattle.model.specs.Laws.{EmptyNotUseful, UsefulStart, UsefulEnd, onRemainder, NoScratch}
 use Rattle.model.specs.declared.Line.{Line}
 use Rattle.model.specs.declared.Line.the-variants.{Empty, Held}
 use Rattle.model.specs.declared.Mapping.the-variants.{Uncached, Cached}
@@ -82,13 +83,33 @@ module _ (t : Task) (m : ℕ) where
   unfolding onLine
   lies-nowhere e c = ap (isLine c) e
 
+module _ (t : Task) (e : t .header .scratch .count ≡ 0) where
+  remainder-line : (m : ℕ) → lineOf t m ≡ Cached (m % lineCount t)
+  unfolding lineOf bypasses
+  remainder-line m = rw (e, outside (leb (t .header .scratch .first) m) refl) refl
+    where
+      outside : (b : Bool) → leb (t .header .scratch .first) m ≡ b → (b && ltb m (t .header .scratch .first + 0)) ≡ false
+      outside true h = le-ltb m (t .header .scratch .first + 0) (omega (arith, leb-true (t .header .scratch .first) m h))
+      outside false h = refl
+
+  on-remainder : (c : ℕ) → onLine t c ≡ onRemainder t c
+  unfolding onLine
+  on-remainder c = fun-ext (λ m. ap (isLine c) (remainder-line m))
+
 pub no-scratch : NoScratch
-unfolding lineOf bypasses
-no-scratch t m e = rw (e, outside (leb (t .header .scratch .first) m) refl) refl
-  where
-    outside : (b : Bool) → leb (t .header .scratch .first) m ≡ b → (b && ltb m (t .header .scratch .first + 0)) ≡ false
-    outside true h = le-ltb m (t .header .scratch .first + 0) (omega (arith, leb-true (t .header .scratch .first) m h))
-    outside false h = refl
+unfolding stateAfter nextRead readsLookedAt accessed evicted miss fetch
+no-scratch t e =
+    let on = on-remainder t e in
+    record {
+      line = remainder-line t e;
+      state = λ k c. rw (on c);
+      next = λ k c. rw (on c);
+      looked = λ k c. rw (on c);
+      accesses = λ i c. rw (on c);
+      evicts = λ c. rw (on c);
+      misses = λ s m. rw (remainder-line t e m);
+      loads = λ s m c. rw (on c);
+    }
 
 pub never-empty : (l : Line) → sameBlock l Empty ≡ false
 never-empty Empty = refl

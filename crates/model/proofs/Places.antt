@@ -1,4 +1,4 @@
--- How large a refusal's place can be: what a C call returns holds number and place in one u32.
+-- How large a refusal's place can be, for the calls that add to it or that return number and place in one u32.
 -- Assumes nothing.
 use Prim.Native.Nat.{ℕ, suc, _+_, _<_, _≤_}
 use mathlib.Core.Path.{_≡_, refl}
@@ -9,7 +9,7 @@ use lib.ListN.{length}
 use Rattle.model.specs.Task.{Task, blockCount}
 use Rattle.model.specs.Lists.{Region, steps, regions, lowest, rightPoint}
 use Rattle.model.specs.Regions.{regionFits}
-use Rattle.model.specs.Answers.{number, place, placeOf, verdictPlace, mostBlocks, andThen, refusedAt, pricing}
+use Rattle.model.specs.Answers.{number, place, verdictNumber, verdictPlace, placeOf, mostBlocks, andThen, refusedAt, pricing}
 use Rattle.model.specs.declared.Input.{Input}
 use Rattle.model.specs.declared.Input.the-variants.{First, Second}
 use Rattle.model.specs.declared.Place.{Place}
@@ -19,7 +19,7 @@ use Rattle.model.specs.declared.Refusal.the-variants.{Length, Checksum, 
 use Rattle.model.specs.declared.Verdict.{Verdict}
 use Rattle.model.specs.declared.Verdict.the-variants.{Accepted, Refused}
 
-pub number-most : (r : Refusal) → number r ≤ 12
+number-most : (r : Refusal) → number r ≤ 12
 number-most Length = omega arith
 number-most (Checksum k) = omega arith
 number-most WrongHeader = omega arith
@@ -33,10 +33,15 @@ number-most OutOfRange = omega arith
 number-most Mismatch = omega arith
 number-most TooManyBlocks = omega arith
 
+pub verdict-number-most : (v : Verdict) → verdictNumber v ≤ 12
+verdict-number-most Accepted = omega arith
+verdict-number-most (Refused r) = number-most r
+
 -- an input's place is at most 97 more than the refusal's own
-pub of-most : (i : Input) (r : Refusal) → placeOf i r ≤ place r + mostBlocks
-of-most First r = omega arith
-of-most Second r = omega arith
+pub of-most : (i : Input) (v : Verdict) → placeOf i v ≤ verdictPlace v + mostBlocks
+of-most First v = omega arith
+of-most Second Accepted = omega arith
+of-most Second (Refused r) = omega arith
 
 pub then-most : (v w : Verdict) (n : ℕ) → verdictPlace v ≤ n → (v ≡ Accepted → verdictPlace w ≤ n) → verdictPlace (andThen v w) ≤ n
 then-most Accepted w n g h = h refl

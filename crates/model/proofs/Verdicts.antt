@@ -4,8 +4,11 @@ use Prim.Native.Nat.{ℕ}
 use mathlib.Core.Path.{_≡_, refl, sym}
 use mathlib.Core.Bool.{Bool, true, false, cond, false≢true}
 use native.Mathlib.Omega.{arith}
-use Rattle.model.specs.Answers.{accepted, andThen}
+use lib.Dec.{eqb}
+use borrow.Author.Tests.{eq-eqb, eqb-true}
+use Rattle.model.specs.Answers.{accepted, andThen, outputRow}
 use Rattle.model.specs.declared.Refusal.{Refusal}
+use Rattle.model.specs.declared.Refusal.the-variants.{Output}
 use Rattle.model.specs.declared.Verdict.{Verdict}
 use Rattle.model.specs.declared.Verdict.the-variants.{Accepted, Refused}
 
@@ -30,3 +33,20 @@ before-refused (Refused y) v w x e = e
 pub row-holds : (r : Refusal) (b : Bool) → cond b Accepted (Refused r) ≡ Accepted → b ≡ true
 row-holds r true e = refl
 row-holds r false e = absurd (never-both (sym e))
+
+-- an output is of the size that is asked for exactly where its row accepts
+pub output-size : (size length : ℕ) → outputRow size length ≡ Accepted → length ≡ size
+unfolding outputRow
+output-size size length e = eqb-true length size (row-holds Output _ e)
+
+pub output-accepts : (size length : ℕ) → length ≡ size → outputRow size length ≡ Accepted
+unfolding outputRow
+output-accepts size length e = rw (eq-eqb length size e)
+
+pub output-refuses : (size length : ℕ) (x : Refusal) → outputRow size length ≡ Refused x → x ≡ Output
+unfolding outputRow
+output-refuses size length x e = go (eqb length size) e
+  where
+    go : (b : Bool) → cond b Accepted (Refused Output) ≡ Refused x → x ≡ Output
+    go true q = absurd (never-both q)
+    go false q = cc

@@ -1,7 +1,8 @@
 -- Refusals and what they are to the build (document 01, "Numbers given to the build"). Assumes nothing.
-use Prim.Native.Nat.{ℕ, _+_, _*_}
-use mathlib.Core.Bool.{Bool, true, false}
+use Prim.Native.Nat.{ℕ, _+_}
+use mathlib.Core.Bool.{Bool, true, false, cond}
 use mathlib.Core.List.{List}
+use lib.Dec.{eqb}
 use Rattle.model.specs.Task.{Task, blockCount}
 use Rattle.model.specs.Lists.{wrongPoint}
 use Rattle.model.specs.Regions.{regionAbove}
@@ -48,20 +49,25 @@ place TooManyBlocks = 0
 abbrev pub mostBlocks : ℕ
 mostBlocks = 97
 
--- the place of an input's refusal: a second input's places come after those of the first
-abbrev pub placeOf : Input → Refusal → ℕ
-placeOf First r = place r
-placeOf Second r = place r + mostBlocks
+-- a verdict's number: that of its refusal, and 0 where it accepts
+abbrev pub verdictNumber : Verdict → ℕ
+verdictNumber Accepted = 0
+verdictNumber (Refused r) = number r
 
--- what a C call returns: 0, or the refusal's number times 65536 plus its place
-abbrev pub returned : Input → Verdict → ℕ
-returned i Accepted = 0
-returned i (Refused r) = number r * 65536 + placeOf i r
-
--- the place of a verdict's refusal, and 0 where it accepts
+-- and its place: that of its refusal, and 0 where it accepts
 abbrev pub verdictPlace : Verdict → ℕ
 verdictPlace Accepted = 0
 verdictPlace (Refused r) = place r
+
+-- the place of a call with two inputs: the places of the second come after those of the first
+abbrev pub placeOf : Input → Verdict → ℕ
+placeOf First v = verdictPlace v
+placeOf Second Accepted = 0
+placeOf Second (Refused r) = place r + mostBlocks
+
+-- refusal 9: a lent output is not of this size
+unfoldable pub outputRow : ℕ → ℕ → Verdict
+outputRow size length = cond (eqb length size) Accepted (Refused Output)
 
 abbrev pub accepted : Verdict → Bool
 accepted Accepted = true

@@ -1,20 +1,22 @@
 -- What documents 01 and 02 say of the definitions and no contract states. Each is proved in proofs/ under its name in small letters.
 -- Assumes nothing.
-use Prim.Native.Nat.{ℕ, _+_, _*_, _%_, _≤_, _<_}
+use Prim.Native.Nat.{ℕ, suc, _+_, _*_, _%_, _≤_, _<_}
 use mathlib.Core.Path.{_≡_}
-use mathlib.Core.Bool.{Bool, true, false}
+use mathlib.Core.Bool.{Bool, true, false, not, cond}
 use mathlib.Core.Logic.{_⊎_}
 use mathlib.Core.List.{List, [], _∷_, List·Memᴰ}
 use lib.Count.{ones}
+use lib.Dec.{eqb}
+use lib.ListN.{take, drop}
 use Rattle.model.specs.Sets.{Lines, size, words, inWords}
 use Rattle.model.specs.Task.{Task, blockCount, lineCount}
-use Rattle.model.specs.Lines.{lineOf, stateAfter, useful}
+use Rattle.model.specs.Lines.{lineOf, lastRead, firstRead, lookedAt, anyRead, sameBlock, readsOf, preempterReads, blockAt, stateAfter, nextRead, readsLookedAt, useful, accessed, evicted}
 use Rattle.model.specs.Lists.{wellFormed, before, FirstOfLeast, among, allLists}
 use Rattle.model.specs.Regions.{lines, cost}
-use Rattle.model.specs.Replay.{missesAlone, missesWith}
+use Rattle.model.specs.Replay.{Cache, miss, fetch, missesAlone, missesWith}
 use Rattle.model.specs.Planning.{Planned}
 use Rattle.model.specs.Cases.{Case, CaseHolds, cases}
-use Rattle.model.specs.declared.Line.the-variants.{Empty}
+use Rattle.model.specs.declared.Line.the-variants.{Empty, Held}
 use Rattle.model.specs.declared.Mapping.the-variants.{Cached}
 use Rattle.model.specs.declared.Plan.{Plan}
 use Rattle.model.specs.declared.Verdict.{Verdict}
@@ -44,9 +46,25 @@ UsefulStart = (t : Task) (c : ℕ) → useful t 0 c ≡ false
 abbrev pub UsefulEnd : Type 0
 UsefulEnd = (t : Task) (c : ℕ) → useful t (blockCount t) c ≡ false
 
--- with no scratch range the line of a number is its remainder by S, so that files with zeros there answer as before (document 02, item 5)
+-- memory block m lies on line c by its remainder alone, as document 01 has it
+abbrev pub onRemainder : Task → ℕ → ℕ → Bool
+onRemainder t c m = eqb c (m % lineCount t)
+
+-- whatever sees the line of a number sees its remainder by S: states, next reads, the reads that a search looks at, T, H, and what a read of a
+-- replay misses and loads. U, regions, prices, plans and misses are made of these
+pub record SeesRemainders (t : Task) : Type 0 where
+  pub line : (m : ℕ) → lineOf t m ≡ Cached (m % lineCount t)
+  pub state : (k c : ℕ) → stateAfter t k c ≡ lastRead (onRemainder t c) Empty (readsOf (take k (t .blocks)))
+  pub next : (k c : ℕ) → nextRead t k c ≡ firstRead (onRemainder t c) (readsOf (drop k (t .blocks)))
+  pub looked : (k c : ℕ) → readsLookedAt t k c ≡ lookedAt (onRemainder t c) (readsOf (drop k (t .blocks)))
+  pub accesses : (i c : ℕ) → accessed t (suc i) c ≡ anyRead (onRemainder t c) (blockAt t i .reads)
+  pub evicts : (c : ℕ) → evicted t c ≡ anyRead (onRemainder t c) (preempterReads (t .preempters))
+  pub misses : (s : Cache) (m : ℕ) → miss t s m ≡ not (sameBlock (s (m % lineCount t)) (Held m))
+  pub loads : (s : Cache) (m c : ℕ) → fetch t s m c ≡ cond (onRemainder t c m) (Held m) (s c)
+
+-- with no scratch range the definitions are what they were without one (document 02, item 5)
 abbrev pub NoScratch : Type 0
-NoScratch = (t : Task) (m : ℕ) → t .header .scratch .count ≡ 0 → lineOf t m ≡ Cached (m % lineCount t)
+NoScratch = (t : Task) → t .header .scratch .count ≡ 0 → SeesRemainders t
 
 -- a list's price is R times its lines
 abbrev pub CostOfLines : Type 0

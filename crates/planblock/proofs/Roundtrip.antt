@@ -11,11 +11,11 @@ use lib.Seq.{drop-at, getD-take, getD-drop, length-take-le, ext-getD}
 use mir.Syntax.{w16}
 use mir.Val.{Fits}
 use borrow.Author.Tests.{eqb-true, eq-eqb, le-ltb}
-use Rattle.model.specs.Answers.{accepted}
+use Rattle.model.specs.Answers.{accepted, outputRow}
 use Rattle.model.specs.declared.Plan.{Plan}
-use Rattle.model.specs.declared.Refusal.the-variants.{Length, Checksum, WrongBlock, Output}
+use Rattle.model.specs.declared.Refusal.the-variants.{Length, Checksum, WrongBlock}
 use Rattle.model.specs.declared.Verdict.the-variants.{Accepted, Refused}
-use Rattle.model.proofs.Verdicts.{never-both, is-accepted}
+use Rattle.model.proofs.Verdicts.{never-both, is-accepted, both-accepted, output-accepts}
 use Rattle.block.specs.Bytes.{le, packed, field, fields, Each}
 use Rattle.block.specs.Blocks.{numbered, checksumRight, bodyRight}
 use Rattle.block.proofs.Bytes.{length-fields}
@@ -108,17 +108,13 @@ zeros-after bs = drop-at (fields bs 20 2 (field bs 4 2)) (replicate (64 - field 
 
 pub stored-reads : StoredReads
 unfolding storeVerdict stored
-stored-reads p out f e = rw e (read-back p f (go (eqb (length out) 512) e))
-  where
-    go : (b : Bool) → cond b (planVerdict p) (Refused Output) ≡ Accepted → planVerdict p ≡ Accepted
-    go true q = q
-    go false q = absurd (never-both (sym q))
+stored-reads p out f e = rw e (read-back p f (both-accepted (outputRow 512 (length out)) (planVerdict p) e .1))
 
 pub read-stores : ReadStores
 unfolding storeVerdict stored
 read-stores bs out e l =
     let back = store-back bs e in
-    rw (eq-eqb _ _ l, back .0) (refl, back .1)
+    rw (output-accepts 512 (length out) l, back .0) (refl, back .1)
 
 -- with this lemma `search (needs, point-fits)` shows `PlanFits` of a plan that a function was passed
 pub point-fits : (n : ℕ) → Fits w16 n → n < 2 ^ 16

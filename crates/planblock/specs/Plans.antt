@@ -6,9 +6,9 @@ use mathlib.Core.Bool.{Bool, cond, _&&_}
 use mathlib.Core.List.{List, [], _∷_, _++_}
 use lib.Dec.{eqb}
 use lib.ListN.{length, getD, take, replicate}
-use Rattle.model.specs.Answers.{accepted, onAccepted}
+use Rattle.model.specs.Answers.{accepted, onAccepted, andThen, outputRow}
 use Rattle.model.specs.declared.Plan.{Plan}
-use Rattle.model.specs.declared.Refusal.the-variants.{Length, Checksum, WrongBlock, Output}
+use Rattle.model.specs.declared.Refusal.the-variants.{Length, Checksum, WrongBlock}
 use Rattle.model.specs.declared.Verdict.{Verdict}
 use Rattle.model.specs.declared.Verdict.the-variants.{Accepted, Refused}
 use Rattle.block.specs.Bytes.{Sized, packed, les, field, fields}
@@ -52,7 +52,7 @@ readVerdict bs =
 
 -- what storing a plan into a lent buffer answers: 9 first
 unfoldable pub storeVerdict : Plan → List ℕ → Verdict
-storeVerdict p out = cond (eqb (length out) 512) (planVerdict p) (Refused Output)
+storeVerdict p out = andThen (outputRow 512 (length out)) (planVerdict p)
 
 -- the buffer after it: the plan's bytes, and on a refusal what it held
 unfoldable pub stored : Plan → List ℕ → List ℕ

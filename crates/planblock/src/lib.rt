@@ -94,9 +94,10 @@ pub fn store(plan: Plan, out: &mut [u8]) -> Verdict
     ensures { λ r. ⌜ r ≡ storeVerdict plan (now (out .entry)) ⌝ }
     ensures { λ _. ⌜ now (out .exit) ≡ stored plan (now (out .entry)) ⌝ }
 {
-    if out.len() != 512 {
-        return Verdict::Refused(Refusal::Output);
-    }
+    let output = answers::check_output(512, out.len());
+    let Verdict::Accepted = output else {
+        return output;
+    };
     let verdict = planvalue::check(plan);
     put_accepted(verdict, plan, out);
     verdict

@@ -9,7 +9,7 @@ use Rattle.model.specs.Sets.{words}
 use Rattle.model.specs.Task.{blockCount}
 use Rattle.model.specs.Lines.{nextRead, readsLookedAt, asNext, useful}
 use Rattle.model.specs.Regions.{loaded, regionLength, lines, cost}
-use Rattle.model.specs.Answers.{onAccepted, andThen, whose, pricing}
+use Rattle.model.specs.Answers.{onAccepted, andThen, whose, placeOf, pricing}
 use Rattle.model.specs.Planning.{chosen, planFor, noPlan, Planned}
 use Rattle.model.specs.declared.Input.{Input}
 use Rattle.model.specs.declared.Next.{Next}
@@ -70,6 +70,10 @@ blockVerdict file block = andThen (verdict file) (andThen (readVerdict block) (p
 -- whose refusal that is: the block's own are a second input's; 7 and 8, of its points, keep their places
 abbrev pub blockInput : List ℕ → List ℕ → Input
 blockInput file block = whose (verdict file) (readVerdict block)
+
+-- and its place: 97 is added to the block's own
+unfoldable pub blockPlace : List ℕ → List ℕ → ℕ
+blockPlace file block = placeOf (blockInput file block) (blockVerdict file block)
 
 -- the plan of its points, with the file's N and id
 unfoldable pub blockPlan : List ℕ → List ℕ → Plan

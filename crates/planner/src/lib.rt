@@ -4,9 +4,8 @@ ghost use Rattle.model.specs.Answers.{onAccepted};
 ghost use Rattle.model.specs.Planning.{noPlan};
 ghost use Rattle.taskfile.specs.File.{verdict};
 ghost use Rattle.planblock.specs.Plans.{storeVerdict, stored, readVerdict, planOf};
-ghost use Rattle.planner.specs.Calls.{noWords, edgeVerdict, usefulWords, nextReadOf, lookedOf, regionVerdict, loadedWords, lengthOf, priceVerdict, priceLines, priceCost, blockVerdict, blockInput, blockPlan, PlanAnswer};
+ghost use Rattle.planner.specs.Calls.{noWords, edgeVerdict, usefulWords, nextReadOf, lookedOf, regionVerdict, loadedWords, lengthOf, priceVerdict, priceLines, priceCost, blockVerdict, blockPlace, blockPlan, PlanAnswer};
 use lineset::LineSet;
-use model::Input;
 use model::Next;
 use model::Plan;
 use model::Refusal;
@@ -35,10 +34,10 @@ pub struct RegionLines {
     pub length: u64,
 }
 
-// The plan of the points of a plan block, and whose refusal it is: the file is the first input, the block the second.
+// The plan of the points of a plan block, and the place of a refusal: the file is the first input, the block the second.
 pub struct BlockPrice {
     pub verdict: Verdict,
-    pub input: Input,
+    pub place: usize,
     pub plan: Plan,
 }
 
@@ -160,7 +159,7 @@ pub fn price(file: &[u8], points: &[u16]) -> Price
 // The plan of the points of a plan block, with the file's N and id.
 pub fn price_block(file: &[u8], block: &[u8]) -> BlockPrice
     ensures { λ r. ⌜ r .verdict ≡ blockVerdict (now (file .entry)) (now (block .entry)) ⌝ }
-    ensures { λ r. ⌜ r .input ≡ blockInput (now (file .entry)) (now (block .entry)) ⌝ }
+    ensures { λ r. ⌜ r .place ≡ blockPlace (now (file .entry)) (now (block .entry)) ⌝ }
     ensures { λ r. ⌜ r .plan ≡ blockPlan (now (file .entry)) (now (block .entry)) ⌝ }
 {
     let checked = taskfile::check(file);
@@ -168,25 +167,26 @@ pub fn price_block(file: &[u8], block: &[u8]) -> BlockPrice
     let readable = read.verdict;
     let before = answers::earlier(checked, readable);
     let Verdict::Accepted = before else {
-        return no_block_price(before, answers::whose(checked, readable));
+        let input = answers::whose(checked, readable);
+        return no_block_price(before, answers::place_of(input, before));
     };
     let priced = planning::price_points(file, read.plan);
     let verdict = priced.verdict;
     let plan = priced.plan;
     BlockPrice {
         verdict,
-        input: Input::First,
+        place: answers::verdict_place(verdict),
         plan,
     }
 }
 
 // What is answered of a block that is not priced.
-fn no_block_price(verdict: Verdict, input: Input) -> BlockPrice
-    ensures { λ r. ⌜ (r .verdict ≡ verdict) × (r .input ≡ input) × (r .plan ≡ noPlan) ⌝ }
+fn no_block_price(verdict: Verdict, place: usize) -> BlockPrice
+    ensures { λ r. ⌜ (r .verdict ≡ verdict) × (r .place ≡ place) × (r .plan ≡ noPlan) ⌝ }
 {
     BlockPrice {
         verdict,
-        input,
+        place,
         plan: answers::no_plan(),
     }
 }

@@ -1,22 +1,31 @@
--- The walk that counts a list's lines, as it passes the edges: the regions behind it are counted, and of the one that it is in, the reads passed.
+-- The walk that counts a list's lines: what it knows of the lines, at its start, after one read more and in a new region; and what is counted as it
+-- passes the edges, of the regions behind it and of the one that it is in.
 -- Assumes nothing.
 use Prim.Native.Nat.{ℕ, suc, _+_, _≤_, _<_}
 use mathlib.Core.Path.{_≡_, refl, sym, _∙_}
+use mathlib.Core.Bool.{false, cond, _&&_}
 use mathlib.Core.List.{List}
 use mathlib.Core.Logic.{⊎-elim, by-cases}
-use native.Mathlib.Decide.{decLt}
+use native.Mathlib.Decide.{ℕ-discrete, decLt}
 use native.Mathlib.Nat.{eq-or-lt-of-le}
 use native.Mathlib.Numerals.{add-one}
 use native.Mathlib.Omega.{arith}
 use borrow.Author.Count.{below-more}
-use lib.ListN.{length, getD, set, length-set, List·getD-eq-default}
+use lib.Dec.{eqb, leb, ltb}
+use lib.ListN.{length, getD, set, replicate, length-set, getD-replicate, List·getD-eq-default}
 use lib.Seq.{getD-set-same, getD-set-other}
+use borrow.Author.Tests.{eq-eqb, ne-eqb, le-leb, lt-leb, lt-ltb, le-ltb}
+use Rattle.model.specs.Sets.{bit}
 use Rattle.model.specs.Task.{Task, blockCount}
+use Rattle.model.specs.Lines.{onLine, sameBlock, readsOf, blockAt, evicted}
 use Rattle.model.specs.Lists.{wrongPoint}
 use Rattle.model.specs.Regions.{regionLines}
+use Rattle.model.specs.declared.Line.{Line}
+use Rattle.model.specs.declared.Line.the-variants.{Empty, Held}
 use Rattle.model.specs.declared.Place.the-variants.{Nowhere}
 use Rattle.model.proofs.Digits.{count-le}
-use Rattle.model.proofs.Loads.{loadedBy, loaded-none, loaded-all}
+use Rattle.model.proofs.Histories.{History, history-none, history-skip, history-more}
+use Rattle.model.proofs.Loads.{loadedBy, loaded-none, loaded-all, loaded-more}
 use Rattle.model.proofs.ReadOrder.{edge}
 use Rattle.pointlist.proofs.Points.{region-edges}
 use Rattle.pricing.specs.Prices.{Loads}
@@ -26,23 +35,115 @@ pub loaded-few : (t : Task) (a p : ℕ) → loadedBy t a p ≤ 512
 unfolding loadedBy
 loaded-few t a p = count-le 512 _
 
+-- after p reads, up to block k, in region r, which starts at edge a: what each line holds, and its last read, which lies before the region's start
+-- if an earlier region read it
+pub record Known (t : Task) (p k r a : ℕ) (held : List Line) (since : List ℕ) : Type 0 where
+  pub last : ℕ → ℕ
+  pub history : History t p held last
+  pub recent : (c : ℕ) → c < 512 → last c ≤ k
+  pub long : length since ≡ 512
+  pub passed : (c : ℕ) → c < 512 → getD since c 0 ≤ suc r
+  pub earlier : (c : ℕ) → c < 512 → leb (last c) a ≡ ltb (getD since c 0) (suc r)
+
+pub known-none : (t : Task) → Known t (edge t 0) 0 0 0 (replicate 512 Empty) (replicate 512 0)
+unfolding readsOf
+known-none t =
+    record {
+      last = λ c. 0;
+      history = history-none t (λ c. 0);
+      recent = λ c h. omega arith;
+      long = refl;
+      passed = λ c h. rw (zeros c h) (omega arith);
+      earlier = λ c h. rw (zeros c h) refl;
+    }
+  where
+    zeros : (c : ℕ) → c < 512 → _≡_ {A = ℕ} (getD (replicate 512 0) c 0) 0
+    zeros c h = getD-replicate {A = ℕ} 512 c 0 0 h
+
+module _ {t : Task} {p i r a : ℕ} {held : List Line} {since : List ℕ} (w : Known t p i r a held since) where
+  -- a region starts at edge i, behind all reads
+  pub known-region : Known t p i (r + 1) i held since
+  known-region =
+      record {
+        last = w .last;
+        history = w .history;
+        recent = w .recent;
+        long = w .long;
+        passed = λ c h. omega (arith, w .passed c h);
+        earlier = λ c h. rw (le-leb (w .last c) i (w .recent c h), lt-ltb (getD since c 0) (suc (r + 1)) (omega (arith, w .passed c h))) refl;
+      }
+
+  -- the block after edge i
+  pub known-block : Known t p (suc i) r a held since
+  known-block =
+      record {
+        last = w .last;
+        history = w .history;
+        recent = λ c h. omega (arith, w .recent c h);
+        long = w .long;
+        passed = w .passed;
+        earlier = w .earlier;
+      }
+
+-- read j of block i + 1, of number m
+module _ (t : Task) (i j m : ℕ) (hi : i < blockCount t) (hj : j < length (blockAt t i .reads)) (is : getD (blockAt t i .reads) j 0 ≡ m)
+    {r a : ℕ} {held : List Line} {since : List ℕ} (l : a ≤ i) (w : Known t (edge t i + j) (suc i) r a held since) where
+  -- it lies on no line
+  pub known-skip : ((d : ℕ) → onLine t d m ≡ false) → Known t (suc (edge t i + j)) (suc i) r a held since
+  known-skip at =
+      record {
+        last = w .last;
+        history = history-skip t i j m hi hj is at (w .history);
+        recent = w .recent;
+        long = w .long;
+        passed = w .passed;
+        earlier = w .earlier;
+      }
+
+  -- it lies on this line
+  module _ (line : ℕ) (hl : line < 512) (at : (d : ℕ) → onLine t d m ≡ eqb d line) where
+    pub known-more : (s : ℕ) → s ≡ suc r → Known t (suc (edge t i + j)) (suc i) r a (set held line (Held m)) (set since line s)
+    known-more s e =
+        record {
+          last = λ c. cond (eqb c line) (suc i) (w .last c);
+          history =
+              history-more t i j m hi hj is line hl at (rw (eq-eqb line line refl) refl) (λ d n. rw (ne-eqb d line n) refl) (w .history);
+          recent = λ c h. by-cases (ℕ-discrete c line) (λ q. rw (eq-eqb c line q) (omega arith)) (λ n. rw (ne-eqb c line n) (w .recent c h));
+          long = length-set since line s ∙ w .long;
+          passed = λ c h. by-cases (ℕ-discrete c line) (λ q. rw (q, here) (omega arith)) (λ n. rw (there c n) (w .passed c h));
+          earlier =
+              λ c h.
+              by-cases (ℕ-discrete c line)
+              (λ q. rw (q, here, eq-eqb line line refl, lt-leb (suc i) a (omega arith), le-ltb s (suc r) (omega arith)) refl)
+              (λ n. rw (there c n, ne-eqb c line n) (w .earlier c h));
+        }
+      where
+        here : getD (set since line s) line 0 ≡ s
+        here = getD-set-same since line s 0 (omega (arith, w .long))
+
+        there : (c : ℕ) → (c ≡ line → ⊥) → getD (set since line s) c 0 ≡ getD since c 0
+        there c n = getD-set-other since line c s 0 n
+
+    -- whether the region loads it
+    pub known-loads : loadedBy t a (suc (edge t i + j))
+        ≡ loadedBy t a (edge t i + j) + bit (evicted t line && sameBlock (getD held line Empty) (Held m) && ltb (getD since line 0) (suc r))
+    known-loads = rw (← (w .earlier line hl)) (loaded-more t i j m hi hj is a l line hl at (w .history))
+
 module _ (t : Task) (ps : List ℕ) where
-  -- at edge i, in region r, which starts at edge a and ends at or after i
-  pub record AtEdge (i r a count : ℕ) (lines : List ℕ) : Type 0 where
+  -- at edge i, in region r, which ends at or after it
+  pub record AtEdge (i r count : ℕ) (lines : List ℕ) : Type 0 where
     pub index : r ≤ length ps
-    pub start : a ≡ startOf t ps r
-    pub passed : a ≤ i
+    pub passed : startOf t ps r ≤ i
     pub end : i ≤ getD ps r (blockCount t)
     pub long : length lines ≡ 64
     pub behind : (q : ℕ) → q < r → getD lines q 0 ≡ regionLines t (startOf t ps q) (getD ps q (blockCount t))
-    pub stored : a < i → getD lines r 0 ≡ count
-    pub counted : count ≡ loadedBy t a (edge t i)
+    pub stored : startOf t ps r < i → getD lines r 0 ≡ count
+    pub counted : count ≡ loadedBy t (startOf t ps r) (edge t i)
 
-  pub at-start : {lines : List ℕ} → length lines ≡ 64 → AtEdge 0 0 0 0 lines
+  pub at-start : {lines : List ℕ} → length lines ≡ 64 → AtEdge 0 0 0 lines
   at-start long =
       record {
         index = omega arith;
-        start = refl;
         passed = omega arith;
         end = omega arith;
         long = long;
@@ -51,44 +152,44 @@ module _ (t : Task) (ps : List ℕ) where
         counted = sym (loaded-none t 0);
       }
 
-  module _ (least : 0 < blockCount t) (right : wrongPoint (blockCount t) ps ≡ Nowhere) {i r a count : ℕ} {lines : List ℕ} (w : AtEdge i r a count lines) where
+  module _ (least : 0 < blockCount t) (right : wrongPoint (blockCount t) ps ≡ Nowhere) {i r count : ℕ} {lines : List ℕ} (w : AtEdge i r count lines) where
     -- there are as many edges before a region as regions, at least, and it is not empty
-    pub edges : (r ≤ a) × (a < getD ps r (blockCount t)) × (getD ps r (blockCount t) ≤ blockCount t)
-    edges = rw (w .start) (region-edges (blockCount t) ps least right r (w .index))
+    pub edges : (r ≤ startOf t ps r) × (startOf t ps r < getD ps r (blockCount t)) × (getD ps r (blockCount t) ≤ blockCount t)
+    edges = region-edges (blockCount t) ps least right r (w .index)
 
     -- the region ends here: the next one starts
-    pub next-region : getD ps r (blockCount t) ≡ i → i < blockCount t → AtEdge i (r + 1) i 0 lines × (i < getD ps (r + 1) (blockCount t))
+    pub next-region : getD ps r (blockCount t) ≡ i → i < blockCount t
+        → AtEdge i (r + 1) 0 lines × (startOf t ps (r + 1) ≡ i) × (i < getD ps (r + 1) (blockCount t))
     next-region e h = (
       record {
         index = omega (arith, inside);
-        start = next;
-        passed = omega arith;
+        passed = omega (arith, next);
         end = omega (arith, later);
         long = w .long;
         behind =
             below-more _ r (w .behind)
-            (w .stored (omega (arith, edges .1)) ∙ w .counted ∙ loaded-all t a i (w .passed) (omega arith) ∙ rw (w .start, e) refl);
-        stored = λ l. absurd (omega arith);
-        counted = sym (loaded-none t i);
+            (w .stored (omega (arith, edges .1)) ∙ w .counted ∙ loaded-all t (startOf t ps r) i (w .passed) (omega arith) ∙ rw e refl);
+        stored = λ l. absurd (omega (arith, next));
+        counted = rw next (sym (loaded-none t i));
       },
+      next,
       later,
     )
       where
         inside : r < length ps
         inside = by-cases (decLt r (length ps)) (λ l. l) (λ l. absurd (omega (arith, List·getD-eq-default ps (blockCount t) {n = r} (omega arith))))
 
-        next : i ≡ startOf t ps (r + 1)
-        next = rw (add-one r) (sym e)
+        next : startOf t ps (r + 1) ≡ i
+        next = rw (add-one r) e
 
         later : i < getD ps (r + 1) (blockCount t)
         later = omega (arith, next, region-edges (blockCount t) ps least right (r + 1) (omega (arith, inside)) .1)
 
     -- a block is passed, and what was counted is stored
-    pub next-edge : (n : ℕ) → blockCount t ≤ 64 → i < getD ps r (blockCount t) → n ≡ loadedBy t a (edge t (suc i)) → AtEdge (i + 1) r a n (set lines r n)
+    pub next-edge : (n : ℕ) → blockCount t ≤ 64 → i < getD ps r (blockCount t) → n ≡ loadedBy t (startOf t ps r) (edge t (suc i)) → AtEdge (i + 1) r n (set lines r n)
     next-edge n most l e =
         record {
           index = w .index;
-          start = w .start;
           passed = omega (arith, w .passed);
           end = omega arith;
           long = length-set lines r n ∙ w .long;
@@ -117,4 +218,4 @@ module _ (t : Task) (ps : List ℕ) where
         here : getD lines r 0 ≡ regionLines t (startOf t ps r) (getD ps r (blockCount t))
         here =
             let whole : getD ps r (blockCount t) ≡ blockCount t = List·getD-eq-default ps (blockCount t) {n = r} (omega (arith, last)) in
-            w .stored (omega (arith, edges .1, whole)) ∙ w .counted ∙ loaded-all t a i (w .passed) (omega arith) ∙ rw (w .start, e, whole) refl
+            w .stored (omega (arith, edges .1, whole)) ∙ w .counted ∙ loaded-all t (startOf t ps r) i (w .passed) (omega arith) ∙ rw (e, whole) refl

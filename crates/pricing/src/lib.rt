@@ -2,7 +2,6 @@
 ghost use mathlib.Core.Bool.{_&&_};
 ghost use mathlib.Core.Path.{_≡_};
 ghost use Prim.Native.Nat.{_≤_};
-ghost use lib.Dec.{leb};
 ghost use lib.ListN.{length, getD};
 ghost use Rattle.model.specs.Sets.{bit};
 ghost use Rattle.model.specs.Task.{blockCount};
@@ -38,8 +37,8 @@ pub fn price_of(file: &[u8], points: &[u16]) -> Price
     }
 }
 
-// The lines of each region of a well-formed list, in one walk over the reads: what each line holds, and the block that read it last. In a region a
-// read loads its line if that is of H and holds the number since a block up to the region's start.
+// The lines of each region of a well-formed list, in one walk over the reads: what each line holds, and the region that read it last, from 1 on. A
+// read loads its line if that is of H, holds the number, and was read last in an earlier region.
 pub fn count_lines(file: &[u8], points: &[u16], lines: &mut [u32; 64])
     requires { ⌜ IsAccepted (now file) × (wrongPoint (blockCount (taskOf (now file))) (now points) ≡ Place.Nowhere) × (length (now lines) ≡ 64) ⌝ }
     ensures { λ _. ⌜ Loads (taskOf (now (file .entry))) (now (points .entry)) (now (lines .exit)) ⌝ }
@@ -51,15 +50,14 @@ pub fn count_lines(file: &[u8], points: &[u16], lines: &mut [u32; 64])
     let mut held = [Line::Empty; 512];
     let mut since = [0u8; 512];
     let mut region = 0;
-    let mut from = 0;
     let mut count = 0u32;
     let mut i = 0;
     while i < blocks {
         if edge_after(points, region, blocks) == i {
             region += 1;
-            from = i;
             count = 0;
         }
+        let here = (region + 1) as u8;
         let k = i + 1;
         let reads = taskfile::read_count(file, k);
         let mut j = 0;
@@ -69,9 +67,9 @@ pub fn count_lines(file: &[u8], points: &[u16], lines: &mut [u32; 64])
                 Mapping::Uncached => {}
                 Mapping::Cached(c) => {
                     let line = held[c];
-                    count += loads(line, number, evicted[c], since[c], from);
+                    count += loads(line, number, evicted[c], since[c] < here);
                     held[c] = Line::Held(number);
-                    since[c] = k as u8;
+                    since[c] = here;
                 }
             }
             j += 1;
@@ -81,11 +79,11 @@ pub fn count_lines(file: &[u8], points: &[u16], lines: &mut [u32; 64])
     }
 }
 
-// 1 for a read that loads its line: the line is of H, and holds the number since a block up to edge `from`.
-fn loads(line: Line, number: u32, evicted: bool, since: u8, from: usize) -> u32
-    ensures { λ r. ⌜ (r ≡ bit (evicted && sameBlock line (Line.Held number) && leb since from)) × (r ≤ 1) ⌝ }
+// 1 for a read that loads its line: the line is of H, holds the number, and was read last in an earlier region.
+fn loads(line: Line, number: u32, evicted: bool, earlier: bool) -> u32
+    ensures { λ r. ⌜ (r ≡ bit (evicted && sameBlock line (Line.Held number) && earlier)) × (r ≤ 1) ⌝ }
 {
-    (evicted & reuse::holds(line, number) & (since as usize <= from)) as u32
+    (evicted & reuse::holds(line, number) & earlier) as u32
 }
 
 // The price of a well-formed list, from the lines of its regions.

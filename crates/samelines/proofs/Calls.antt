@@ -6,9 +6,8 @@ use mathlib.Core.Logic.{_⊎_, inl, inr}
 use mathlib.Core.List.{List}
 use Rattle.model.specs.Task.{Task}
 use Rattle.model.specs.Regions.{FirstBest, NoPlacementFits}
-use Rattle.model.specs.Answers.{returned, pricing}
+use Rattle.model.specs.Answers.{pricing}
 use Rattle.model.specs.Planning.{planFor, Planned}
-use Rattle.model.specs.declared.Input.the-variants.{First}
 use Rattle.model.specs.declared.Plan.{Plan}
 use Rattle.model.specs.declared.Refusal.the-variants.{NoPlacement}
 use Rattle.model.specs.declared.Verdict.{Verdict}
@@ -16,10 +15,10 @@ use Rattle.model.specs.declared.Verdict.the-variants.{Refused}
 use Rattle.model.proofs.Seen.{SeenAlike}
 use Rattle.model.proofs.Verdicts.{never-both}
 use Rattle.taskfile.specs.File.{verdict, taskOf}
-use Rattle.planner.specs.Calls.{edgeVerdict, usefulWords, nextReadOf, lookedOf, regionVerdict, loadedWords, lengthOf, priceVerdict, priceLines, priceCost, blockVerdict, blockInput, blockPlan}
+use Rattle.planner.specs.Calls.{edgeVerdict, usefulWords, nextReadOf, lookedOf, regionVerdict, loadedWords, lengthOf, priceVerdict, priceLines, priceCost, blockVerdict, blockPlace, blockPlan}
 use Rattle.planner.proofs.OneAnswer.{one-answer}
 use Rattle.replaying.specs.Calls.{replayVerdict, missesAloneOf, missesWithOf}
-use Rattle.firmware.specs.Calls.{StoredBest, priceReturned, priceLeft}
+use Rattle.firmware.specs.Calls.{returned, StoredBest, priceCallVerdict, priceReturned, priceLeft}
 use Rattle.firmware.proofs.Results.{one-call}
 use Rattle.samelines.specs.Files.{SameLines}
 use Rattle.samelines.specs.Statements.{UsefulAlike, SearchAlike, RegionAlike, PriceAlike, BlockAlike, PlanAlike, PlansEqual, ReplayAlike, PlanCallAlike, PlanCallsEqual, PriceCallAlike}
@@ -108,8 +107,9 @@ module _ (file other : List ℕ) (s : SameLines file other) where
   unfolding blockVerdict
   block-verdict-alike = fun-ext (λ block. rw (verdict-alike, pricing-alike _ _ tasks))
 
-  block-input-alike : blockInput file ≡ blockInput other
-  block-input-alike = fun-ext (λ block. rw verdict-alike)
+  block-place-alike : blockPlace file ≡ blockPlace other
+  unfolding blockPlace
+  block-place-alike = fun-ext (λ block. rw (verdict-alike, block-verdict-alike))
 
   block-plan-alike : blockPlan file ≡ blockPlan other
   unfolding blockPlan
@@ -128,11 +128,11 @@ module _ (file other : List ℕ) (s : SameLines file other) where
   misses-with-alike = fun-ext (λ ps. rw (replay-verdict-alike, tasks .misses-with))
 
   returned-alike : priceReturned file ≡ priceReturned other
-  unfolding priceReturned
-  returned-alike = fun-ext (λ points. fun-ext (λ block. rw (verdict-alike, block-verdict-alike)))
+  unfolding priceReturned priceCallVerdict
+  returned-alike = fun-ext (λ points. fun-ext (λ block. rw (block-place-alike, block-verdict-alike)))
 
   left-alike : priceLeft file ≡ priceLeft other
-  unfolding priceLeft
+  unfolding priceLeft priceCallVerdict
   left-alike = fun-ext (λ points. fun-ext (λ block. rw (block-verdict-alike, plan-for-alike _ _ tasks)))
 
 pub useful-alike : UsefulAlike
@@ -148,7 +148,7 @@ pub price-alike : PriceAlike
 price-alike = (price-verdict-alike, price-lines-alike, price-cost-alike)
 
 pub block-alike : BlockAlike
-block-alike = (block-verdict-alike, block-input-alike, block-plan-alike)
+block-alike = (block-verdict-alike, block-place-alike, block-plan-alike)
 
 pub replay-alike : ReplayAlike
 replay-alike = (replay-verdict-alike, misses-alone-alike, misses-with-alike)
@@ -168,14 +168,10 @@ plans-equal file other s v w p q a b = one-answer other v w p q (plan-alike file
 
 pub plan-call-alike : PlanCallAlike
 plan-call-alike file other s block r left call =
-    record {
-      output = call .output;
-      refused = λ long x e. absurd (never-both (sym (s .other-accepted) ∙ e));
-      planned = λ long e. go (call .planned long (s .accepted));
-    }
+    record { refused = λ x e. call .refused x (rw (verdict-alike file other s) e); planned = λ e. go (call .planned (rw (verdict-alike file other s) e)) }
   where
-    go : (NoPlacementFits (taskOf file) × (r ≡ returned First (Refused NoPlacement)) × (left ≡ block)) ⊎ (StoredBest (taskOf file) left × (r ≡ 0))
-        → (NoPlacementFits (taskOf other) × (r ≡ returned First (Refused NoPlacement)) × (left ≡ block)) ⊎ (StoredBest (taskOf other) left × (r ≡ 0))
+    go : (NoPlacementFits (taskOf file) × (r ≡ returned (Refused NoPlacement) 0) × (left ≡ block)) ⊎ (StoredBest (taskOf file) left × (r ≡ 0))
+        → (NoPlacementFits (taskOf other) × (r ≡ returned (Refused NoPlacement) 0) × (left ≡ block)) ⊎ (StoredBest (taskOf other) left × (r ≡ 0))
     go (inl none) = inl (none-alike _ _ (tasks file other s) (none .0), none .1, none .2)
     go (inr best) =
         inr (

@@ -11,7 +11,7 @@ use Rattle.model.specs.declared.Plan.{Plan}
 use Rattle.model.specs.declared.Verdict.{Verdict}
 use Rattle.block.specs.Bytes.{Each}
 use Rattle.taskfile.specs.File.{taskOf, fileOf, IsAccepted, EntryWithin}
-use Rattle.planner.specs.Calls.{edgeVerdict, usefulWords, nextReadOf, lookedOf, regionVerdict, loadedWords, lengthOf, priceVerdict, priceLines, priceCost, blockVerdict, blockInput, blockPlan, PlanAnswer}
+use Rattle.planner.specs.Calls.{edgeVerdict, usefulWords, nextReadOf, lookedOf, regionVerdict, loadedWords, lengthOf, priceVerdict, priceLines, priceCost, blockVerdict, blockPlace, blockPlan, PlanAnswer}
 use Rattle.replaying.specs.Calls.{replayVerdict, missesAloneOf, missesWithOf}
 use Rattle.firmware.specs.Calls.{PlanCall, priceReturned, priceLeft}
 use Rattle.samelines.specs.Files.{SameLines}
@@ -38,7 +38,7 @@ PriceAlike = Alike priceVerdict × Alike priceLines × Alike priceCost
 
 -- pricing the points of a plan block, for every block
 abbrev pub BlockAlike : Type 0
-BlockAlike = Alike blockVerdict × Alike blockInput × Alike blockPlan
+BlockAlike = Alike blockVerdict × Alike blockPlace × Alike blockPlan
 
 -- a replay, for every list
 abbrev pub ReplayAlike : Type 0

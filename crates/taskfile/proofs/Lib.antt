@@ -3,3 +3,4 @@ pub mod Frames
 pub mod Files
 pub mod Tasks
 pub mod Places
+pub mod Before

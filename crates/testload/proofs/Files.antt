@@ -7,15 +7,15 @@ use mathlib.Core.List.{List, map}
 use native.Mathlib.Nat.{zero-add}
 use native.Mathlib.Omega.{arith}
 use lib.ListN.{length, length-map}
-use borrow.Author.Tests.{eqb-true}
-use Rattle.model.specs.declared.Refusal.the-variants.{Output, OutOfRange}
+use Rattle.model.specs.Answers.{outputRow}
+use Rattle.model.specs.declared.Refusal.the-variants.{OutOfRange}
 use Rattle.model.specs.declared.Verdict.the-variants.{Accepted}
-use Rattle.model.proofs.Verdicts.{row-holds, both-accepted}
+use Rattle.model.proofs.Verdicts.{both-accepted, row-holds, output-size}
 use Rattle.block.specs.Bytes.{Each}
 use Rattle.taskfile.specs.File.{headerNumbers, basicBytes, preempterBytes, countsInRange, scratchInRange, headerInRange, fileOf, Within}
 use Rattle.taskfile.proofs.Accepted.{counts-range}
 use Rattle.taskfile.proofs.Tasks.{file-then-task}
-use Rattle.writer.specs.Writing.{outputRow, Appended, closedFile}
+use Rattle.writer.specs.Writing.{fileSize, Appended, closedFile}
 use Rattle.writer.proofs.Laws.{appended-both, task-closed}
 use Rattle.testload.specs.Draws.{after, drawnList, afterReads, drawnBlock, afterBlock, drawnPreempter, drawnHeader, drawnTask}
 use Rattle.testload.specs.Calls.{countsRow, generateVerdict, generated}
@@ -55,10 +55,10 @@ task-put seed n m s q r state out basic all new pb es pp e =
 -- of an accepted call the counts are in range, and the buffer has the file's length
 pub accepted-rows : (n m s : ℕ) (out : List ℕ) → generateVerdict n m s out ≡ Accepted
     → (countsInRange n m s ≡ true) × (length out ≡ 512 * (1 + n + m))
-unfolding generateVerdict countsRow outputRow
+unfolding generateVerdict countsRow
 accepted-rows n m s out e =
-    let both = both-accepted (countsRow n m s) (outputRow n m (length out)) e in
-    (row-holds OutOfRange _ (both .0), eqb-true (length out) (512 * (1 + n + m)) (row-holds Output _ (both .1)))
+    let both = both-accepted (countsRow n m s) (outputRow (fileSize n m) (length out)) e in
+    (row-holds OutOfRange _ (both .0), output-size (fileSize n m) (length out) (both .1))
 
 pub generated-accepted : GeneratedAccepted
 unfolding generated

@@ -159,7 +159,8 @@ pub fn generate(
     ensures { λ _. ⌜ now (out .exit) ≡ generated seed blocks preempters «line_count» limit reload (now (out .entry)) ⌝ }
 {
     let counts = check_counts(blocks, preempters, line_count);
-    let output = writer::check_output(blocks, preempters, out.len());
+    let size = writer::file_size(blocks, preempters);
+    let output = answers::check_output(size, out.len());
     let verdict = answers::earlier(counts, output);
     match verdict {
         Verdict::Accepted => put_task(seed, blocks, preempters, line_count, limit, reload, out),

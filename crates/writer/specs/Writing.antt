@@ -2,21 +2,16 @@
 -- Assumes nothing.
 use Prim.Native.Nat.{ℕ, zero, suc, _+_, _*_}
 use mathlib.Core.Path.{_≡_}
-use mathlib.Core.Bool.{cond}
 use mathlib.Core.List.{List, [], _∷_, _++_}
-use lib.Dec.{eqb}
 use lib.ListN.{length, take, drop}
 use Rattle.model.specs.declared.Header.{Header}
-use Rattle.model.specs.declared.Refusal.the-variants.{Output}
-use Rattle.model.specs.declared.Verdict.{Verdict}
-use Rattle.model.specs.declared.Verdict.the-variants.{Accepted, Refused}
 use Rattle.block.specs.Bytes.{packed, fields}
 use Rattle.block.specs.Blocks.{numbered, sealed, sealedBlocks}
 use Rattle.taskfile.specs.File.{blocksIn, headerNumbers, wholeBlocks}
 
--- refusal 9 for a file that is written: the buffer is not 1 + N + M blocks long
-unfoldable pub outputRow : ℕ → ℕ → ℕ → Verdict
-outputRow n m length = cond (eqb length (512 * (1 + n + m))) Accepted (Refused Output)
+-- the bytes of a file: 1 + N + M blocks
+abbrev pub fileSize : ℕ → ℕ → ℕ
+fileSize n m = 512 * (1 + n + m)
 
 -- the first n numbers that a block reads, as they stand in it
 abbrev pub storedReads : List ℕ → ℕ → List ℕ

@@ -7,20 +7,14 @@ ghost use lib.ListN.{length, take};
 ghost use Rattle.block.specs.Bytes.{packed};
 ghost use Rattle.block.specs.Blocks.{numbered};
 ghost use Rattle.taskfile.specs.File.{headerNumbers, entryBytes, basicBytes, preempterBytes};
-ghost use Rattle.writer.specs.Writing.{outputRow, storedReads, Appended, closedFile, copies};
+ghost use Rattle.writer.specs.Writing.{fileSize, storedReads, Appended, closedFile, copies};
 use model::Header;
-use model::Refusal;
-use model::Verdict;
 
-// Refuses a buffer that is not as long as a file of so many blocks.
-pub fn check_output(blocks: u32, preempters: u32, length: usize) -> Verdict
-    ensures { λ r. ⌜ r ≡ outputRow blocks preempters length ⌝ }
+// The bytes of a file of so many basic blocks and preempters.
+pub fn file_size(blocks: u32, preempters: u32) -> usize
+    ensures { λ r. ⌜ r ≡ fileSize blocks preempters ⌝ }
 {
-    if length == 512 * (1 + blocks as usize + preempters as usize) {
-        Verdict::Accepted
-    } else {
-        Verdict::Refused(Refusal::Output)
-    }
+    512 * (1 + blocks as usize + preempters as usize)
 }
 
 // Stores the header of a file with N basic blocks and M preempter blocks. The first two bytes are the kind, 1, and a zero.

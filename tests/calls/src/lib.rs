@@ -5,7 +5,7 @@
 #[derive(Clone, Copy, PartialEq, Eq, Debug)]
 pub struct Refusal {
     pub number: u32,
-    pub place: u32,
+    pub place: usize,
 }
 
 pub type Returned = Result<(), Refusal>;
@@ -35,6 +35,7 @@ mod linked {
             k: usize,
             out: *mut u8,
             out_len: usize,
+            place: *mut usize,
         ) -> u32;
         #[cfg_attr(old, link_name = "old_probe_next_read")]
         pub fn probe_next_read(
@@ -44,6 +45,7 @@ mod linked {
             k: usize,
             out: *mut u8,
             out_len: usize,
+            place: *mut usize,
         ) -> u32;
         #[cfg_attr(old, link_name = "old_probe_region")]
         pub fn probe_region(
@@ -53,6 +55,7 @@ mod linked {
             b: usize,
             out: *mut u8,
             out_len: usize,
+            place: *mut usize,
         ) -> u32;
         #[cfg_attr(old, link_name = "old_probe_replay")]
         pub fn probe_replay(
@@ -62,6 +65,7 @@ mod linked {
             points_len: usize,
             out: *mut u8,
             out_len: usize,
+            place: *mut usize,
         ) -> u32;
         #[cfg_attr(old, link_name = "old_probe_generate")]
         pub fn probe_generate(
@@ -73,6 +77,7 @@ mod linked {
             r: u32,
             out: *mut u8,
             out_len: usize,
+            place: *mut usize,
         ) -> u32;
         #[cfg_attr(old, link_name = "old_probe_join")]
         pub fn probe_join(
@@ -82,6 +87,7 @@ mod linked {
             second_len: usize,
             out: *mut u8,
             out_len: usize,
+            place: *mut usize,
         ) -> u32;
     }
 }
@@ -92,14 +98,21 @@ fn firmware(code: u32) -> Returned {
         0 => Ok(()),
         _ => Err(Refusal {
             number: code / 65536,
-            place: code % 65536,
+            place: (code % 65536) as usize,
         }),
     }
 }
 
-/// What a call of `probe` returns: the same.
-fn probe(code: u32) -> Returned {
-    firmware(code)
+/// What a call of `probe` returns and leaves: the number, and the place beside it.
+fn probe(call: impl FnOnce(*mut usize) -> u32) -> Returned {
+    let mut place = usize::MAX;
+    match call(&mut place) {
+        0 => {
+            assert_eq!(place, 0, "a place is left where nothing is refused");
+            Ok(())
+        }
+        number => Err(Refusal { number, place }),
+    }
 }
 
 pub fn plan(file: &[u8], block: &mut [u8]) -> Returned {
@@ -123,26 +136,35 @@ pub fn price(file: &[u8], points: &[u8], block: &mut [u8]) -> Returned {
 
 /// The useful lines at edge k, 64 bytes.
 pub fn useful(file: &[u8], k: usize, out: &mut [u8]) -> Returned {
-    probe(unsafe {
-        linked::probe_useful(file.as_ptr(), file.len(), k, out.as_mut_ptr(), out.len())
+    probe(|place| unsafe {
+        linked::probe_useful(
+            file.as_ptr(),
+            file.len(),
+            k,
+            out.as_mut_ptr(),
+            out.len(),
+            place,
+        )
     })
 }
 
 /// The next read of a line after block k, 24 bytes.
 pub fn next_read(file: &[u8], line: usize, k: usize, out: &mut [u8]) -> Returned {
     let (at, len) = (out.as_mut_ptr(), out.len());
-    probe(unsafe { linked::probe_next_read(file.as_ptr(), file.len(), line, k, at, len) })
+    probe(|place| unsafe {
+        linked::probe_next_read(file.as_ptr(), file.len(), line, k, at, len, place)
+    })
 }
 
 /// The loaded lines of a region and its length, 72 bytes.
 pub fn region(file: &[u8], a: usize, b: usize, out: &mut [u8]) -> Returned {
     let (at, len) = (out.as_mut_ptr(), out.len());
-    probe(unsafe { linked::probe_region(file.as_ptr(), file.len(), a, b, at, len) })
+    probe(|place| unsafe { linked::probe_region(file.as_ptr(), file.len(), a, b, at, len, place) })
 }
 
 /// The misses without the points and with them, 16 bytes.
 pub fn replay(file: &[u8], points: &[u16], out: &mut [u8]) -> Returned {
-    probe(unsafe {
+    probe(|place| unsafe {
         linked::probe_replay(
             file.as_ptr(),
             file.len(),
@@ -150,6 +172,7 @@ pub fn replay(file: &[u8], points: &[u16], out: &mut [u8]) -> Returned {
             points.len(),
             out.as_mut_ptr(),
             out.len(),
+            place,
         )
     })
 }
@@ -157,12 +180,14 @@ pub fn replay(file: &[u8], points: &[u16], out: &mut [u8]) -> Returned {
 /// The task file of a seed, N, M, S, Q and R.
 pub fn generate(numbers: [u32; 6], out: &mut [u8]) -> Returned {
     let [seed, n, m, s, q, r] = numbers;
-    probe(unsafe { linked::probe_generate(seed, n, m, s, q, r, out.as_mut_ptr(), out.len()) })
+    probe(|place| unsafe {
+        linked::probe_generate(seed, n, m, s, q, r, out.as_mut_ptr(), out.len(), place)
+    })
 }
 
 /// Two task files joined.
 pub fn join(first: &[u8], second: &[u8], out: &mut [u8]) -> Returned {
-    probe(unsafe {
+    probe(|place| unsafe {
         linked::probe_join(
             first.as_ptr(),
             first.len(),
@@ -170,6 +195,7 @@ pub fn join(first: &[u8], second: &[u8], out: &mut [u8]) -> Returned {
             second.len(),
             out.as_mut_ptr(),
             out.len(),
+            place,
         )
     })
 }

@@ -23,8 +23,8 @@ impl Counts {
         }
         self.add(&format!("{call}: {number}"));
         self.add_if(number == 2 && place > 0, "2 above block 0");
-        self.add_if(number == 5 && place as usize <= n, "5 in a basic block");
-        self.add_if(number == 5 && place as usize > n, "5 in an interrupter");
+        self.add_if(number == 5 && place <= n, "5 in a basic block");
+        self.add_if(number == 5 && place > n, "5 in an interrupter");
         let of_list = matches!(call, "price" | "replay");
         self.add_if(of_list && number == 7 && place == 0, "7 at index 0");
         self.add_if(number == 7 && place > 0, "7 above index 0");

@@ -75,7 +75,7 @@ pub fn run(f: &mut Fixed) -> Result<(), String> {
         ..long.clone()
     };
     let header = header.file();
-    let wrong: [(&[u8], u32, u32); 6] = [
+    let wrong: [(&[u8], u32, usize); 6] = [
         (&[], 1, 0),
         (&file[..BLOCK + 1], 1, 0),
         (&check, 2, 3),

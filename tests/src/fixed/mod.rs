@@ -40,7 +40,7 @@ impl Fixed<'_> {
         self.check(call).map(|_| ())
     }
 
-    fn refused(&mut self, call: &Call, number: u32, place: u32) -> Result<(), String> {
+    fn refused(&mut self, call: &Call, number: u32, place: usize) -> Result<(), String> {
         match self.check(call)? {
             Err(r) if r.number == number && r.place == place => Ok(()),
             _ => Err(format!(
@@ -129,7 +129,7 @@ impl Fixed<'_> {
         kind: &str,
         files: [&[u8]; 2],
         more: isize,
-        right: (u32, u32),
+        right: (u32, usize),
     ) -> Result<(), String> {
         match self.join(kind, files, more)? {
             Err(r) if (r.number, r.place) == right => Ok(()),

@@ -164,7 +164,7 @@ impl Reference {
     fn priced(&self, block: &[u8]) -> Answer {
         let in_block = || {
             let Refusal { number, place } = plan_block_refusal(block)?;
-            refuse(number, place as usize + 97.but("97 forgotten", 0))
+            refuse(number, place + 97.but("97 forgotten", 0))
         };
         if bug("points looked at before the file") {
             given(in_block())?;

@@ -54,7 +54,7 @@ impl Pair<'_> {
 
     /// The first file's refusals, the second's, 11, 12, 9.
     pub fn refused(&self, out_len: usize) -> Option<Refusal> {
-        let further = |Refusal { number, place }, by: u32| refuse(number, (place + by) as usize);
+        let further = |Refusal { number, place }, by: usize| refuse(number, place + by);
         let first = || {
             further(
                 file_refusal(self.first)?,

@@ -16,6 +16,6 @@ pub use ::calls::Refusal;
 fn refuse(number: u32, place: usize) -> Option<Refusal> {
     Some(Refusal {
         number,
-        place: place as u32,
+        place,
     })
 }

@@ -1,5 +1,6 @@
 -- `answers::place_of` meets its contract, by the two inputs.
 -- Assumes nothing.
+use native.Mathlib.Omega.{arith}
 use borrow.Author.Needs.{needs}
 use Rattle.answers.proofs.place_of.Statement.{statement}
 use Rattle.answers.proofs.place_of.Tie as tie
@@ -7,32 +8,49 @@ use Rattle.answers.proofs.place_of.Tie as tie
 enum-told : tie.Need-enum-told
 enum-told c = search needs
 
-refusal-place-requires : tie.Need-refusal-place-requires
-refusal-place-requires c κs = search needs
+verdict-place-requires : tie.Need-verdict-place-requires
+verdict-place-requires c κs = search needs
 
 enum-told-2 : tie.Need-enum-told-2
 enum-told-2 c = search needs
 
-refusal-place-requires-2 : tie.Need-refusal-place-requires-2
-refusal-place-requires-2 c κs = search needs
+enum-told-3 : tie.Need-enum-told-3
+enum-told-3 c = search needs
+
+enum-known-verdict : tie.Need-enum-known-verdict
+enum-known-verdict c = search needs
+
+refusal-place-requires : tie.Need-refusal-place-requires
+refusal-place-requires c κs = search needs
 
 add-result : tie.Need-add-result
-add-result c = search needs
+add-result c =
+    let known = c .before .before in
+    let second = known .before .before in
+    omega (arith, rw (second .enum-told2 .given .1, known .verdict .given .1) at (second .before .before .pre))
 
 returns : tie.Need-returns
 returns c = search needs
 
 returns-2 : tie.Need-returns-2
-returns-2 c = rw (c .before .enum-told2 .given .1, c .refusal-place2 .ensures)
+returns-2 c = search needs
+
+returns-3 : tie.Need-returns-3
+returns-3 c =
+    let known = c .before .before in
+    rw (known .before .before .enum-told2 .given .1, known .verdict .given .1, c .refusal-place .ensures)
 
 pub place-of-spec : {M : Type 1} → statement M
 place-of-spec =
     tie.close
     (tie.spec
     enum-told
-    refusal-place-requires
+    verdict-place-requires
     enum-told-2
-    refusal-place-requires-2
+    enum-told-3
+    enum-known-verdict
+    refusal-place-requires
     add-result
     returns
-    returns-2)
+    returns-2
+    returns-3)

@@ -2,8 +2,8 @@
 -- Assumes nothing.
 use mathlib.Core.Path.{_≡_}
 use lib.ListN.{length}
-use borrow.Author.Tests.{eq-eqb}
 use Rattle.model.specs.declared.Verdict.the-variants.{Accepted}
+use Rattle.model.proofs.Verdicts.{output-accepts}
 use Rattle.planblock.specs.Plans.{storeVerdict, stored}
 use borrow.Author.Needs.{needs}
 use Rattle.firmware.proofs.keep.Statement.{statement}
@@ -27,7 +27,7 @@ returns c =
     let told = c .before .before .before .before in
     let start = told .before .before .before in
     let accepted : start .args .verdict ≡ Accepted = told .enum-told .given .1 in
-    let left = rw (eq-eqb (length (start .args .block .now)) 512 (start .pre .0), start .pre .1 accepted) at (c .before .before .store .ensures .1) in
+    let left = rw (output-accepts 512 (length (start .args .block .now)) (start .pre .0), start .pre .1 accepted) at (c .before .before .store .ensures .1) in
     rw accepted left
 
 returns-2 : tie.Need-returns-2

@@ -1,42 +1,79 @@
 -- `firmware::preempt_plan` meets its contract: 9 for the block, and else what the planner answered.
 -- Assumes nothing.
-use mathlib.Core.Path.{refl}
+use mathlib.Core.Path.{_≡_, sym, _∙_}
 use native.Mathlib.Omega.{arith}
-use Rattle.firmware.proofs.Calls.{plan-most, plan-stores, plan-call}
+use lib.ListN.{length}
+use Rattle.model.specs.Answers.{outputRow}
+use Rattle.model.specs.declared.Verdict.the-variants.{Accepted}
+use Rattle.model.proofs.Verdicts.{output-size}
+use Rattle.firmware.proofs.Calls.{plan-most, plan-stores, plan-output, plan-call}
 use borrow.Author.Needs.{needs}
 use Rattle.firmware.proofs.preempt_plan.Statement.{statement}
 use Rattle.firmware.proofs.preempt_plan.Tie as tie
+
+check-output-requires : tie.Need-check-output-requires
+check-output-requires c κs = search needs
+
+enum-told : tie.Need-enum-told
+enum-told c = search needs
+
+-- the block is of 512 bytes
+row : (c : tie.After-enum-told) → outputRow 512 (length (c .before .before .before .before .before .args .block .now)) ≡ Accepted
+row c = sym (c .before .before .check-output .ensures) ∙ c .enum-told .given .1
+
+enum-told-2 : tie.Need-enum-told-2
+enum-told-2 c = search needs
 
 returned-requires : tie.Need-returned-requires
 returned-requires c κs = search needs
 
 returns : tie.Need-returns
-returns c = record { output = λ no. (c .returned .ensures, refl); refused = λ l x e. absurd (omega arith); planned = λ l e. absurd (omega arith) }
+returns c =
+    let told = c .before in
+    let refused = told .enum-told2 .given .1 in
+    let args = told .before .before .before .before .before .args in
+    plan-output (args .file .now) (args .block .now) _ _ (sym (told .before .before .check-output .ensures) ∙ refused) (rw refused at (c .returned .ensures))
 
 plan-requires : tie.Need-plan-requires
 plan-requires c κs = search needs
 
+verdict-place-requires : tie.Need-verdict-place-requires
+verdict-place-requires c κs = search needs
+
 leave-requires : tie.Need-leave-requires
 leave-requires c κs =
-    let file = c .before .before .before .before .before .before .args .file .now in
-    let answer = c .before .before .plan in
-    let known = answer .ensures in (
-      search needs,
-      plan-stores file (answer .result .verdict) (answer .result .plan) known,
-      plan-most file (answer .result .verdict) (answer .result .plan) known,
-    )
+    let place = c .before in
+    let answer = place .before .before in
+    let told = answer .before in
+    let file = told .before .before .before .before .before .args .file .now in
+    let v = answer .plan .result .verdict in
+    let p = answer .plan .result .plan in
+    (output-size _ _ (row told), plan-stores file v p (answer .plan .ensures), omega (arith, place .verdict-place .ensures, plan-most file v p (answer .plan .ensures)))
 
 same-length : tie.Need-same-length
 same-length c = search needs
 
 returns-2 : tie.Need-returns-2
 returns-2 c =
-    let start = c .before .before .before .before .before .before .before .before .before in
-    let answer = c .before .before .before .before .before .plan in
-    let left = c .before .before .leave .ensures in
-    plan-call (start .args .file .now) (start .args .block .now) (answer .result .verdict) (answer .result .plan) _ _ (omega arith) (answer .ensures) (left .0) (left .1)
+    let left = c .before .before in
+    let place = left .before .before in
+    let answer = place .before .before in
+    let told = answer .before in
+    let args = told .before .before .before .before .before .args in
+    plan-call (args .file .now) (args .block .now) (answer .plan .result .verdict) (answer .plan .result .plan) _ _ (row told) (answer .plan .ensures)
+    (rw (place .verdict-place .ensures) at (left .leave .ensures .0)) (left .leave .ensures .1)
 
 pub preempt-plan-spec : {M : Type 1} → statement M
 preempt-plan-spec =
     tie.close
-    (tie.spec returned-requires returns plan-requires leave-requires same-length returns-2)
+    (tie.spec
+    check-output-requires
+    enum-told
+    enum-told-2
+    returned-requires
+    returns
+    plan-requires
+    verdict-place-requires
+    leave-requires
+    same-length
+    returns-2)

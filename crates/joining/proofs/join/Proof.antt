@@ -2,10 +2,12 @@
 -- Assumes nothing.
 use mathlib.Core.Path.{_≡_, refl, sym, ap₂, _∙_}
 use lib.ListN.{length}
-use Rattle.model.specs.Answers.{andThen, whose}
+use Rattle.model.specs.Answers.{andThen, whose, placeOf}
+use Rattle.model.specs.declared.Verdict.the-variants.{Accepted}
 use Rattle.model.proofs.Verdicts.{both-accepted, before-refused}
 use Rattle.taskfile.specs.File.{taskOf, verdict}
-use Rattle.joining.specs.Calls.{joinRows, joinVerdict, joinInput, joinLeft}
+use Rattle.joining.specs.Calls.{joinRows, joinVerdict, joinInput, joinPlace, joinLeft}
+use Rattle.joining.proofs.Places.{place-fits}
 use borrow.Author.Needs.{needs}
 use Rattle.joining.proofs.join.Statement.{statement}
 use Rattle.joining.proofs.join.Tie as tie
@@ -18,6 +20,31 @@ checks c =
     let second = c .before .before .check2 .ensures in
     let first = c .before .before .before .check .ensures in
     (c .earlier .ensures ∙ ap₂ andThen first second, c .before .whose .ensures ∙ ap₂ whose first second)
+
+-- a refusal of one of the files is the answer
+refused : (c : tie.After-enum-told2) → let earlier = c .before .before in
+    let args = earlier .before .before .before .before .before .before .before .args in
+    earlier .earlier .result ≡ joinVerdict (args .first .now) (args .second .now) (args .out .now)
+unfolding joinVerdict
+refused c =
+    let earlier = c .before .before in
+    let args = earlier .before .before .before .before .before .before .before .args in
+    let told = c .enum-told2 .given .1 in
+    let rows = joinRows (taskOf (args .first .now)) (taskOf (args .second .now)) (length (args .out .now)) in
+    told ∙ sym (before-refused (verdict (args .first .now)) (verdict (args .second .now)) rows _ (sym (checks earlier .0) ∙ told))
+
+-- both files are accepted
+accepted : (c : tie.After-enum-told) → let args = c .before .before .before .before .before .before .before .before .before .args in
+    (verdict (args .first .now) ≡ Accepted) × (verdict (args .second .now) ≡ Accepted)
+accepted c = both-accepted _ _ (sym (checks (c .before .before) .0) ∙ c .enum-told .given .1)
+
+-- and what they come to is the answer
+joined : (c : tie.After-join-accepted) → let args = c .before .before .before .before .before .before .before .before .before .before .before .args in
+    c .join-accepted .result ≡ joinVerdict (args .first .now) (args .second .now) (args .out .now)
+unfolding joinVerdict
+joined c =
+    let both = accepted (c .before .before) in
+    rw (both .0, both .1) (c .join-accepted .ensures .0)
 
 check-requires : tie.Need-check-requires
 check-requires c κs = search needs
@@ -37,36 +64,35 @@ enum-told c = search needs
 enum-told-2 : tie.Need-enum-told-2
 enum-told-2 c = search needs
 
+place-of-requires : tie.Need-place-of-requires
+place-of-requires c κs = place-fits (c .before .before .before .whose .result) _ _ _ _ (refused c)
+
 returns : tie.Need-returns
-unfolding joinVerdict joinLeft
+unfolding joinPlace joinLeft
 returns c =
-    let earlier = c .before .before in
-    let args = earlier .before .before .before .before .before .before .before .args in
-    let first = args .first .now in
-    let second = args .second .now in
-    let refused = c .enum-told2 .given .1 in
-    let known = checks earlier in
-    let later = before-refused (verdict first) (verdict second) (joinRows (taskOf first) (taskOf second) (length (args .out .now))) _ (sym (known .0) ∙ refused) in
-    (refused ∙ sym later, (known .1, rw later refl))
+    let told = c .before in
+    let answer = refused told in
+    let input = checks (told .before .before) .1 in
+    (answer, (c .place-of .ensures ∙ ap₂ placeOf input answer, rw (← answer, told .enum-told2 .given .1) refl))
 
 join-accepted-requires : tie.Need-join-accepted-requires
-join-accepted-requires c κs =
-    let told = c .before in
-    both-accepted _ _ (sym (checks (told .before .before) .0) ∙ told .enum-told .given .1)
+join-accepted-requires c κs = accepted (c .before)
+
+place-of-requires-2 : tie.Need-place-of-requires-2
+place-of-requires-2 c κs =
+    let made = c .before .before in
+    place-fits (made .before .before .before .before .before .whose .result) _ _ _ _ (joined made)
 
 same-length : tie.Need-same-length
 same-length c = search needs
 
 returns-2 : tie.Need-returns-2
-unfolding joinVerdict joinLeft
+unfolding joinPlace joinLeft
 returns-2 c =
-    let joined = c .before .before in
-    let told = joined .before .before in
-    let known = checks (told .before .before) in
-    let args = told .before .before .before .before .before .before .before .before .before .args in
-    let both = both-accepted (verdict (args .first .now)) (verdict (args .second .now)) (sym (known .0) ∙ told .enum-told .given .1) in
-    let answers = joined .join-accepted .ensures in
-    (rw (both .0, both .1) (answers .0), (known .1, rw (both .0, both .1, ← answers .0) (answers .1)))
+    let made = c .before .before .before in
+    let answer = joined made in
+    let input = checks (made .before .before .before .before) .1 in
+    (answer, (c .place-of2 .ensures ∙ ap₂ placeOf input answer, rw (← answer) (made .join-accepted .ensures .1)))
 
 pub join-spec : {M : Type 1} → statement M
 join-spec =
@@ -78,7 +104,9 @@ join-spec =
     earlier-requires
     enum-told
     enum-told-2
+    place-of-requires
     returns
     join-accepted-requires
+    place-of-requires-2
     same-length
     returns-2)

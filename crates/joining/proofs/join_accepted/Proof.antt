@@ -1,13 +1,13 @@
 -- `joining::join_accepted` meets its contract: the rows in their order, and where all accept, the joined file is stored.
 -- Assumes nothing.
 use Prim.Native.Nat.{ℕ, _+_}
-use mathlib.Core.Path.{_≡_, refl, sym, ap₂, _∙_}
+use mathlib.Core.Path.{_≡_, refl, sym, ap, ap₂, _∙_}
 use native.Mathlib.Omega.{arith}
 use lib.ListN.{length}
-use Rattle.model.specs.Answers.{andThen}
+use Rattle.model.specs.Answers.{andThen, outputRow}
 use Rattle.model.specs.Task.{blockCount}
 use Rattle.taskfile.specs.File.{taskOf}
-use Rattle.writer.specs.Writing.{outputRow}
+use Rattle.writer.specs.Writing.{fileSize}
 use Rattle.joining.specs.Joining.{joined}
 use Rattle.joining.specs.Calls.{totalsRow, joinRows}
 use Rattle.joining.proofs.Tasks.{count-joined, preempters-joined, counts-fit, rows-accept}
@@ -16,14 +16,14 @@ use Rattle.joining.proofs.join_accepted.Statement.{statement}
 use Rattle.joining.proofs.join_accepted.Tie as tie
 
 -- N and M of the joined task
-totals : (c : tie.After-earlier2) → let others = c .before .before .before .before .before in
+totals : (c : tie.After-earlier2) → let others = c .before .before .before .before .before .before in
     let more = others .before .before in
     let args = more .before .before .before .before .before .args in
     let both = joined (taskOf (args .first .now)) (taskOf (args .second .now)) in
     (more .before .block-count .result + more .block-count2 .result ≡ blockCount both) ×
     (others .before .preempter-count .result + others .preempter-count2 .result ≡ length (both .preempters))
 totals c =
-    let others = c .before .before .before .before .before in
+    let others = c .before .before .before .before .before .before in
     let more = others .before .before in
     let args = more .before .before .before .before .before .args in
     let t = taskOf (args .first .now) in
@@ -33,19 +33,20 @@ totals c =
     )
 
 -- the verdict is the one that the contract states
-decided : (c : tie.After-earlier2) → let args = c .before .before .before .before .before .before .before .before .before .before .before .before .args in
+decided : (c : tie.After-earlier2) → let args = c .before .before .before .before .before .before .before .before .before .before .before .before .before .args in
     c .earlier2 .result ≡ joinRows (taskOf (args .first .now)) (taskOf (args .second .now)) (length (args .out .now))
 unfolding joinRows
 decided c =
     let output = c .before .before in
-    let counts = output .before in
+    let size = output .before in
+    let counts = size .before in
     let args = counts .before .before .before .before .before .before .before .before .before .args in
     let n = totals c .0 in
     let m = totals c .1 in
     c .earlier2 .ensures ∙
     ap₂ andThen (counts .before .check-agree .ensures)
     (c .before .earlier .ensures ∙
-    ap₂ andThen (counts .check-totals .ensures ∙ ap₂ totalsRow n m) (output .check-output .ensures ∙ ap₂ (λ (x y : ℕ). outputRow x y (length (args .out .now))) n m))
+    ap₂ andThen (counts .check-totals .ensures ∙ ap₂ totalsRow n m) (output .check-output .ensures ∙ ap (λ (x : ℕ). outputRow x (length (args .out .now))) (size .file-size .ensures ∙ ap₂ fileSize n m)))
 
 block-count-requires : tie.Need-block-count-requires
 block-count-requires c κs = search needs
@@ -71,11 +72,14 @@ check-agree-requires c κs = search needs
 check-totals-requires : tie.Need-check-totals-requires
 check-totals-requires c κs = search needs
 
-cast-check-output : tie.Need-cast-check-output
-cast-check-output c = search needs
+cast-file-size : tie.Need-cast-file-size
+cast-file-size c = search needs
 
-cast-check-output-2 : tie.Need-cast-check-output-2
-cast-check-output-2 c = search needs
+cast-file-size-2 : tie.Need-cast-file-size-2
+cast-file-size-2 c = search needs
+
+file-size-requires : tie.Need-file-size-requires
+file-size-requires c κs = search needs
 
 check-output-requires : tie.Need-check-output-requires
 check-output-requires c κs = search needs
@@ -93,7 +97,7 @@ put-joined-requires : tie.Need-put-joined-requires
 put-joined-requires c κs =
     let told = c .before in
     let counts = totals (told .before .before) in
-    let start = told .before .before .before .before .before .before .before .before .before .before .before .before .before .before in
+    let start = told .before .before .before .before .before .before .before .before .before .before .before .before .before .before .before in
     let t = taskOf (start .args .first .now) in
     let u = taskOf (start .args .second .now) in
     let rows = rows-accept t u (length (start .args .out .now)) (sym (decided (told .before .before)) ∙ told .enum-told .given .1) in
@@ -129,8 +133,9 @@ join-accepted-spec =
     add-preempters
     check-agree-requires
     check-totals-requires
-    cast-check-output
-    cast-check-output-2
+    cast-file-size
+    cast-file-size-2
+    file-size-requires
     check-output-requires
     earlier-requires
     earlier-requires-2

@@ -2,6 +2,7 @@
 -- Assumes nothing.
 use lib.ListN.{replicate}
 use borrow.Author.Needs.{needs}
+use Rattle.model.specs.Answers.{outputRow}
 use Rattle.planblock.specs.Plans.{storeVerdict, PlanFits}
 use Rattle.planblock.proofs.Roundtrip.{stored-reads, point-fits}
 use Rattle.planblock_cases.proofs.round_trip.Statement.{statement}
@@ -23,7 +24,7 @@ read-requires : tie.Need-read-requires
 read-requires c κs = search needs
 
 returns : tie.Need-returns
-unfolding storeVerdict
+unfolding storeVerdict outputRow
 returns c accepted =
     let read = c .before in
     let stored = read .before .before .before in

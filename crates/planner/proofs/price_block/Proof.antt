@@ -1,17 +1,27 @@
 -- `planner::price_block` meets its contract: the first refusal of the file and the block, or the price of the block's points.
 -- Assumes nothing.
-use mathlib.Core.Path.{refl, sym, _∙_}
-use Rattle.model.specs.Answers.{pricing}
+use Prim.Native.Nat.{_≤_}
+use mathlib.Core.Path.{_≡_, sym, ap₂, _∙_}
+use native.Mathlib.Omega.{arith}
+use Rattle.model.specs.Answers.{andThen, whose, placeOf, verdictPlace, mostBlocks, pricing}
 use Rattle.model.specs.Planning.{chosen}
 use Rattle.model.proofs.Verdicts.{both-accepted, before-refused}
+use Rattle.model.proofs.Places.{then-most, of-most}
 use Rattle.taskfile.specs.File.{verdict, taskOf}
+use Rattle.taskfile.proofs.Places.{verdict-most}
 use Rattle.planvalue.proofs.Verdicts.{count-accepted}
 use Rattle.planblock.specs.Plans.{readVerdict, planOf}
+use Rattle.planblock.proofs.Verdicts.{read-place}
 use Rattle.planblock.proofs.Roundtrip.{store-back, zeros-after}
-use Rattle.planner.specs.Calls.{blockVerdict, blockPlan}
+use Rattle.planner.specs.Calls.{blockVerdict, blockPlace, blockPlan}
 use borrow.Author.Needs.{needs}
 use Rattle.planner.proofs.price_block.Statement.{statement}
 use Rattle.planner.proofs.price_block.Tie as tie
+
+-- what both checks come to
+checks : (c : tie.After-earlier) → let args = c .before .before .before .before .before .args in
+    c .earlier .result ≡ andThen (verdict (args .file .now)) (readVerdict (args .block .now))
+checks c = c .earlier .ensures ∙ ap₂ andThen (c .before .before .check .ensures) (c .before .read .ensures .0)
 
 check-requires : tie.Need-check-requires
 check-requires c κs = search needs
@@ -31,48 +41,53 @@ enum-told-2 c = search needs
 whose-requires : tie.Need-whose-requires
 whose-requires c κs = search needs
 
+place-of-requires : tie.Need-place-of-requires
+place-of-requires c κs =
+    let earlier = c .before .before .before in
+    let args = earlier .before .before .before .before .before .args in
+    let most = then-most (verdict (args .file .now)) (readVerdict (args .block .now)) mostBlocks (verdict-most (args .file .now)) (λ a. omega (arith, read-place (args .block .now))) in
+    let small : verdictPlace (earlier .earlier .result) ≤ mostBlocks = rw (checks earlier) most in
+    omega (arith, of-most (c .whose .result) (earlier .earlier .result))
+
 no-block-price-requires : tie.Need-no-block-price-requires
 no-block-price-requires c κs = search needs
 
 returns : tie.Need-returns
-unfolding blockVerdict blockPlan
+unfolding blockVerdict blockPlace blockPlan
 returns c =
-    let start = c .before .before .before .before .before .before .before .before .before in
-    let file = start .args .file .now in
-    let block = start .args .block .now in
-    let check = c .before .before .before .before .before .before .check .ensures in
-    let read = c .before .before .before .before .before .read .ensures in
-    let earlier = rw (check, read .0) at (sym (c .before .before .before .before .earlier .ensures) ∙ c .before .before .enum-told2 .given .1) in
-    let later = before-refused (verdict file) (readVerdict block) (pricing (taskOf file) (chosen (planOf block))) _ earlier in
-    let answers = c .no-block-price .ensures in (
-      answers .0 ∙ c .before .before .enum-told2 .given .1 ∙ sym later,
-      (answers .1 ∙ rw (check, read .0) at (c .before .whose .ensures), rw later (answers .2)),
-    )
+    let answers = c .no-block-price .ensures in
+    let whose-is = c .before .before in
+    let told = whose-is .before in
+    let earlier = told .before .before in
+    let args = earlier .before .before .before .before .before .args in
+    let file = args .file .now in
+    let block = args .block .now in
+    let refused = told .enum-told2 .given .1 in
+    let later = before-refused (verdict file) (readVerdict block) (pricing (taskOf file) (chosen (planOf block))) _ (sym (checks earlier) ∙ refused) in
+    let input = whose-is .whose .ensures ∙ ap₂ whose (earlier .before .before .check .ensures) (earlier .before .read .ensures .0) in
+    rw later (answers .0 ∙ refused, (answers .1 ∙ c .before .place-of .ensures ∙ ap₂ placeOf input refused, answers .2))
 
 price-points-requires : tie.Need-price-points-requires
 price-points-requires c κs =
-    let start = c .before .before .before .before .before .before .before in
-    let file = start .args .file .now in
-    let block = start .args .block .now in
-    let check = c .before .before .before .before .check .ensures in
-    let read = c .before .before .before .read .ensures in
-    let earlier = rw (check, read .0) at (sym (c .before .before .earlier .ensures) ∙ c .enum-told .given .1) in
-    let both = both-accepted (verdict file) (readVerdict block) earlier in
-    rw (read .1, both .1) (both .0, (count-accepted (planOf block) (store-back block (both .1) .0), zeros-after block))
+    let earlier = c .before .before in
+    let args = earlier .before .before .before .before .before .args in
+    let block = args .block .now in
+    let both = both-accepted (verdict (args .file .now)) (readVerdict block) (sym (checks earlier) ∙ c .enum-told .given .1) in
+    rw (earlier .before .read .ensures .1, both .1) (both .0, (count-accepted (planOf block) (store-back block (both .1) .0), zeros-after block))
+
+verdict-place-requires : tie.Need-verdict-place-requires
+verdict-place-requires c κs = search needs
 
 returns-2 : tie.Need-returns-2
-unfolding blockVerdict blockPlan
+unfolding blockVerdict blockPlace blockPlan
 returns-2 c =
-    let priced = c .before in
-    let start = priced .before .before .before .before .before .before .before .before in
-    let file = start .args .file .now in
-    let block = start .args .block .now in
-    let check = priced .before .before .before .before .before .check .ensures in
-    let read = priced .before .before .before .before .read .ensures in
-    let earlier = rw (check, read .0) at (sym (priced .before .before .before .earlier .ensures) ∙ priced .before .enum-told .given .1) in
-    let both = both-accepted (verdict file) (readVerdict block) earlier in
-    let answers = rw (read .1, both .1) at (priced .price-points .ensures) in
-    rw (both .0, both .1) (answers .0, (refl, answers .1))
+    let priced = c .before .before in
+    let told = priced .before in
+    let earlier = told .before .before in
+    let args = earlier .before .before .before .before .before .args in
+    let both = both-accepted (verdict (args .file .now)) (readVerdict (args .block .now)) (sym (checks earlier) ∙ told .enum-told .given .1) in
+    let answers = rw (earlier .before .read .ensures .1, both .1) at (priced .price-points .ensures) in
+    rw (both .0, both .1) (answers .0, (rw (answers .0) at (c .verdict-place .ensures), answers .1))
 
 pub price-block-spec : {M : Type 1} → statement M
 price-block-spec =
@@ -84,7 +99,9 @@ price-block-spec =
     enum-told
     enum-told-2
     whose-requires
+    place-of-requires
     no-block-price-requires
     returns
     price-points-requires
+    verdict-place-requires
     returns-2)

@@ -6,37 +6,37 @@ use mathlib.Core.Logic.{⊎-elim}
 use native.Mathlib.Nat.{add-zero}
 use native.Mathlib.Omega.{arith}
 use native.Mathlib.Numerals.{add-one}
-use lib.ListN.{length, getD, replicate, length-set}
-use lib.Seq.{getD-set-same, getD-set-other}
+use lib.ListN.{length, getD}
 use borrow.Author.Needs.{needs}
 use Rattle.model.specs.Task.{blockCount}
-use Rattle.model.specs.Lines.{readsOf, blockAt}
+use Rattle.model.specs.Lines.{blockAt}
 use Rattle.model.proofs.LineStates.{lies-on, lies-nowhere}
-use Rattle.model.proofs.Histories.{History, history-none, history-skip, history-more}
-use Rattle.model.proofs.Loads.{loadedBy, loaded-skip, loaded-more}
+use Rattle.model.proofs.Loads.{loadedBy, loaded-skip}
 use Rattle.model.proofs.ReadOrder.{edge, edge-suc}
 use Rattle.taskfile.specs.File.{taskOf}
 use Rattle.taskfile.proofs.Accepted as accepted-file
 use Rattle.cacheline.proofs.Below.{line-below}
+use Rattle.pricing.proofs.Pricing.{startOf}
+use Rattle.pricing.proofs.Walk.{Known, known-none, known-region, known-block, known-skip, known-more, known-loads}
 use Rattle.pricing.proofs.Walk.{AtEdge, at-start, edges, next-region, next-edge, at-end, loaded-few}
 use Rattle.pricing.proofs.count_lines.Statement.{statement}
 use Rattle.pricing.proofs.count_lines.Tie as tie
 
 abbrev Inv-loop2 : tie.InvT-loop2
-Inv-loop2 file points lines cache blocks evicted held₀ since₀ region from count₀ i k reads j₀ held since count j =
-    (j ≤ reads) × (from ≤ i) × (length since ≡ 512) × History (taskOf file) (edge (taskOf file) i + j) held (λ c. getD since c 0) ×
-    (count ≡ loadedBy (taskOf file) from (edge (taskOf file) i + j))
+Inv-loop2 file points lines cache blocks evicted held₀ since₀ region count₀ i here k reads j₀ held since count j =
+    (j ≤ reads) × Known (taskOf file) (edge (taskOf file) i + j) (suc i) region (startOf (taskOf file) points region) held since ×
+    (count ≡ loadedBy (taskOf file) (startOf (taskOf file) points region) (edge (taskOf file) i + j))
 
 abbrev μ-loop2 : tie.MeasureT-loop2
-μ-loop2 file points lines cache blocks evicted held₀ since₀ region from count₀ i k reads j₀ held since count j = reads - j
+μ-loop2 file points lines cache blocks evicted held₀ since₀ region count₀ i here k reads j₀ held since count j = reads - j
 
 abbrev Inv-loop : tie.InvT-loop
-Inv-loop file points lines₀ cache blocks evicted held₀ since₀ region₀ from₀ count₀ i₀ lines held since region from count i =
-    (i ≤ blocks) × (length since ≡ 512) × History (taskOf file) (edge (taskOf file) i) held (λ c. getD since c 0) ×
-    AtEdge (taskOf file) points i region from count lines
+Inv-loop file points lines₀ cache blocks evicted held₀ since₀ region₀ count₀ i₀ lines held since region count i =
+    (i ≤ blocks) × Known (taskOf file) (edge (taskOf file) i) i region (startOf (taskOf file) points region) held since ×
+    AtEdge (taskOf file) points i region count lines
 
 abbrev μ-loop : tie.MeasureT-loop
-μ-loop file points lines₀ cache blocks evicted held₀ since₀ region₀ from₀ count₀ i₀ lines held since region from count i = blocks - i
+μ-loop file points lines₀ cache blocks evicted held₀ since₀ region₀ count₀ i₀ lines held since region count i = blocks - i
 
 geometry-of-requires : tie.Need-geometry-of-requires Inv-loop2 μ-loop2 Inv-loop μ-loop
 geometry-of-requires c κs = search needs
@@ -48,31 +48,25 @@ mark-evicted-requires : tie.Need-mark-evicted-requires Inv-loop2 μ-loop2 Inv-lo
 mark-evicted-requires c κs = search needs
 
 loop-holds : tie.Need-loop-holds Inv-loop2 μ-loop2 Inv-loop μ-loop
-unfolding readsOf
 loop-holds c =
     let start = c .before .before .before .before .before .before in
-    let t = taskOf (start .args .file .now) in (
-      omega arith,
-      refl,
-      history-none t (λ d. getD (replicate 512 0) d 0),
-      at-start t (start .args .points .now) (start .pre .2),
-    )
+    let t = taskOf (start .args .file .now) in
+    (omega arith, known-none t, at-start t (start .args .points .now) (start .pre .2))
 
 edge-after-requires : tie.Need-edge-after-requires Inv-loop2 μ-loop2 Inv-loop μ-loop
 edge-after-requires c κs = search needs
 
 add-region : tie.Need-add-region Inv-loop2 μ-loop2 Inv-loop μ-loop
-add-region c = omega (arith, c .before .before .before .loop .inv .3 .index)
+add-region c = omega (arith, c .before .before .before .loop .inv .2 .index)
 
-add-k : tie.Need-add-k Inv-loop2 μ-loop2 Inv-loop μ-loop
-add-k c = omega arith
-
--- the region of the block after edge i
+-- the region of the block after edge i, and what is known of the lines there
 entered : (c : tie.Joined1 Inv-loop2 μ-loop2 Inv-loop μ-loop)
     → let args = c .before .before .before .before .before .before .before .before .before .before .args in
     let l = c .before .before .before .loop in
     let t = taskOf (args .file .now) in
-    AtEdge t (args .points .now) (l .i) (c .if1 .region) (c .if1 .from) (c .if1 .count) (l .lines) × (l .i < getD (args .points .now) (c .if1 .region) (blockCount t))
+    let ps = args .points .now in
+    AtEdge t ps (l .i) (c .if1 .region) (c .if1 .count) (l .lines) × (l .i < getD ps (c .if1 .region) (blockCount t)) ×
+    Known t (edge t (l .i)) (suc (l .i)) (c .if1 .region) (startOf t ps (c .if1 .region)) (l .held) (l .since)
 entered c =
     let start = c .before .before .before .before .before .before .before .before .before .before in
     let t = taskOf (start .args .file .now) in
@@ -82,24 +76,44 @@ entered c =
     let least : 0 < blockCount t = omega (arith, c .before .before .before .before .before .before .block-count .ensures) in
     let end : c .before .edge-after .result ≡ getD ps (l .region) (blockCount t) = c .before .edge-after .ensures ∙ ap (getD ps (l .region)) blocks in
     ⊎-elim
-    (λ w. rw (w .1, w .2, w .3) (next-region t ps least (start .pre .1) (l .inv .3) (sym end ∙ w .0 .taken) (omega (arith, c .before .before .loop-test .taken))))
-    (λ w. rw (w .1, w .2, w .3) (l .inv .3, let other : getD ps (l .region) (blockCount t) ≡ l .i → ⊥ = λ e. w .0 .left (end ∙ e) in omega (arith, l .inv .3 .end)))
+    (λ w.
+    let next = next-region t ps least (start .pre .1) (l .inv .2) (sym end ∙ w .0 .taken) (omega (arith, c .before .before .loop-test .taken)) in
+    rw (w .1, w .2) (next .0, next .2, rw (next .1) (known-block (known-region (l .inv .1)))))
+    (λ w.
+    let other : getD ps (l .region) (blockCount t) ≡ l .i → ⊥ = λ e. w .0 .left (end ∙ e) in
+    rw (w .1, w .2) (l .inv .2, omega (arith, l .inv .2 .end), known-block (l .inv .1)))
     (c .if1 .came)
+
+-- there are at most 64 regions
+few : (c : tie.Joined1 Inv-loop2 μ-loop2 Inv-loop μ-loop) → c .if1 .region < 64
+few c =
+    let start = c .before .before .before .before .before .before .before .before .before .before in
+    let file = start .args .file .now in
+    let at = edges (taskOf file) (start .args .points .now) (omega (arith, c .before .before .before .before .before .before .block-count .ensures)) (start .pre .1) (entered c .0) in
+    omega (arith, at .0, at .1, at .2, accepted-file.few-blocks file (start .pre .0))
+
+add-here : tie.Need-add-here Inv-loop2 μ-loop2 Inv-loop μ-loop
+add-here c = omega (arith, few (c .before))
+
+cast-here : tie.Need-cast-here Inv-loop2 μ-loop2 Inv-loop μ-loop
+cast-here c = omega (arith, few (c .before))
+
+add-k : tie.Need-add-k Inv-loop2 μ-loop2 Inv-loop μ-loop
+add-k c = omega arith
 
 read-count-requires : tie.Need-read-count-requires Inv-loop2 μ-loop2 Inv-loop μ-loop
 read-count-requires c κs =
-    let start = c .before .before .before .before .before .before .before .before .before .before in
+    let start = c .before .before .before .before .before .before .before .before .before .before .before in
     (start .pre .0, omega arith, omega (arith, accepted-file.block-count (start .args .file .now)))
 
 loop2-holds : tie.Need-loop2-holds Inv-loop2 μ-loop2 Inv-loop μ-loop
 loop2-holds c =
-    let at = entered (c .before) .0 in
-    let l = c .before .before .before .before .loop in
-    (omega arith, at .passed, l .inv .1, rw add-zero (l .inv .2), at .counted ∙ rw add-zero refl)
+    let at = entered (c .before .before) in
+    (omega arith, rw add-zero (at .2), at .0 .counted ∙ rw add-zero refl)
 
 read-requires : tie.Need-read-requires Inv-loop2 μ-loop2 Inv-loop μ-loop
 read-requires c κs =
-    let start = c .before .before .before .before .before .before .before .before .before .before .before .before .before in
+    let start = c .before .before .before .before .before .before .before .before .before .before .before .before .before .before in
     ((start .pre .0, omega arith, omega (arith, accepted-file.block-count (start .args .file .now))), omega arith)
 
 line-of-requires : tie.Need-line-of-requires Inv-loop2 μ-loop2 Inv-loop μ-loop
@@ -133,19 +147,15 @@ loads-requires c κs = search needs
 add-count : tie.Need-add-count Inv-loop2 μ-loop2 Inv-loop μ-loop
 add-count c =
     let inner = c .before .before .before .before .before .before .before .before .before .loop2 in
-    let t = taskOf (c .before .before .before .before .before .before .before .before .before .before .before .before .before .before .before .before .before .before .before .before .before .args .file .now) in
-    omega (arith, c .before .loads .ensures .1, inner .inv .4, loaded-few t (c .before .before .before .before .before .before .before .before .before .before .before .if1 .from) (edge t (c .before .before .before .before .before .before .before .before .before .before .before .before .before .before .loop .i) + inner .j))
+    let args = c .before .before .before .before .before .before .before .before .before .before .before .before .before .before .before .before .before .before .before .before .before .before .args in
+    let t = taskOf (args .file .now) in
+    omega (arith, c .before .loads .ensures .1, inner .inv .2, loaded-few t (startOf t (args .points .now) (c .before .before .before .before .before .before .before .before .before .before .before .before .if1 .region)) (edge t (c .before .before .before .before .before .before .before .before .before .before .before .before .before .before .before .loop .i) + inner .j))
 
 mul-held : tie.Need-mul-held Inv-loop2 μ-loop2 Inv-loop μ-loop
 mul-held c = omega (arith, below (c .before .before .before))
 
 array-set-from-held : tie.Need-array-set-from-held Inv-loop2 μ-loop2 Inv-loop μ-loop
 array-set-from-held c = omega (arith, below (c .before .before .before))
-
-cast-since : tie.Need-cast-since Inv-loop2 μ-loop2 Inv-loop μ-loop
-cast-since c =
-    let start = c .before .before .before .before .before .before .before .before .before .before .before .before .before .before .before .before .before .before .before .before .before in
-    omega (arith, accepted-file.few-blocks (start .args .file .now) (start .pre .0))
 
 array-write-since : tie.Need-array-write-since Inv-loop2 μ-loop2 Inv-loop μ-loop
 array-write-since c = omega (arith, below (c .before .before .before))
@@ -160,12 +170,12 @@ loop2-again : tie.Need-loop2-again Inv-loop2 μ-loop2 Inv-loop μ-loop
 loop2-again c =
     let turn = c .before .before .before in
     let inner = turn .before .loop2 in
-    let joined = turn .before .before .before in
+    let joined = turn .before .before .before .before in
     let outer = joined .before .before .before .loop in
     let start = joined .before .before .before .before .before .before .before .before .before .before in
     let file = start .args .file .now in
     let t = taskOf file in
-    let from = joined .if1 .from in
+    let inside-region = entered joined .0 .passed in
     let cache = joined .before .before .before .before .before .before .before .geometry-of in
     let marks = joined .before .before .before .before .mark-evicted in
     let number = c .before .before .read in
@@ -183,10 +193,8 @@ loop2-again c =
     let nowhere = lies-nowhere t (number .result) (is ∙ w .1 .given .1) in
     rw (w .2, w .3, w .4, next) (
       omega (arith, taken),
-      inner .inv .1,
-      inner .inv .2,
-      history-skip t (outer .i) (inner .j) (number .result) inside counted number-is nowhere (inner .inv .3),
-      inner .inv .4 ∙ sym (loaded-skip t (outer .i) (inner .j) (number .result) inside counted number-is from (inner .inv .1) nowhere),
+      known-skip t (outer .i) (inner .j) (number .result) inside counted number-is inside-region (inner .inv .1) nowhere,
+      inner .inv .2 ∙ sym (loaded-skip t (outer .i) (inner .j) (number .result) inside counted number-is _ inside-region nowhere),
     ))
     (λ w.
     let on = w .1 .given .0 .0 in
@@ -194,23 +202,11 @@ loop2-again c =
     let in-cache = line-below (line .result) on (w .1 .given .1) (line .ensures .1) in
     rw (w .6, w .7, w .8, next) (
       omega (arith, taken),
-      inner .inv .1,
-      length-set (inner .since) on _ ∙ inner .inv .2,
-      history-more t (outer .i) (inner .j) (number .result) inside counted number-is on in-cache lies
-          (getD-set-same (inner .since) on (outer .i + 1) 0 (omega (arith, inner .inv .2)) ∙ add-one (outer .i))
-          (λ d n. getD-set-other (inner .since) on d (outer .i + 1) 0 n) (inner .inv .3),
-      ap₂ _+_ (inner .inv .4) (w .4 .ensures .0 ∙ rw (marks .ensures .1 on) refl) ∙
-          sym (loaded-more t (outer .i) (inner .j) (number .result) inside counted number-is from (inner .inv .1) on in-cache lies (inner .inv .3)),
+      known-more t (outer .i) (inner .j) (number .result) inside counted number-is inside-region (inner .inv .1) on in-cache lies _ (add-one (joined .if1 .region)),
+      ap₂ _+_ (inner .inv .2) (w .4 .ensures .0 ∙ rw (marks .ensures .1 on, add-one) refl) ∙
+          sym (known-loads t (outer .i) (inner .j) (number .result) inside counted number-is inside-region (inner .inv .1) on in-cache lies),
     ))
     (c .match .came)
-
--- a region starts after as many edges as there are regions before it
-few : (c : tie.Joined1 Inv-loop2 μ-loop2 Inv-loop μ-loop) → c .if1 .region < 64
-few c =
-    let start = c .before .before .before .before .before .before .before .before .before .before in
-    let file = start .args .file .now in
-    let at = edges (taskOf file) (start .args .points .now) (omega (arith, c .before .before .before .before .before .before .block-count .ensures)) (start .pre .1) (entered c .0) in
-    omega (arith, at .0, at .1, at .2, accepted-file.few-blocks file (start .pre .0))
 
 mul-lines : tie.Need-mul-lines Inv-loop2 μ-loop2 Inv-loop μ-loop
 mul-lines c = omega (arith, few (c .before .before .before .before))
@@ -231,24 +227,23 @@ loop-again c =
     let t = taskOf file in
     let joined = c .before .before .before .before in
     let outer = c .before .before .before .before .before .before .before .loop in
-    let inner = c .before .before .loop2 in
+    let inner = c .before .loop2 in
     let inside : outer .i < blockCount t = omega (arith, c .before .before .before .before .before .before .loop-test .taken, c .before .before .before .before .before .before .before .before .before .before .block-count .ensures .0) in
     let reads-are = accepted-file.reads-at file (outer .i) (omega (arith, accepted-file.block-count file)) in
     let whole : length (blockAt t (outer .i) .reads) ≡ inner .j =
-    rw reads-are (omega (arith, c .before .loop2-test .left, inner .inv .0, c .before .before .before .read-count .ensures .0)) in
+    rw reads-are (omega (arith, c .loop2-test .left, inner .inv .0, c .before .before .read-count .ensures .0)) in
     let there : edge t (outer .i) + inner .j ≡ edge t (suc (outer .i)) = rw (edge-suc t (outer .i) inside, whole) refl in
     let at = entered joined in (
       omega (arith, c .before .before .before .before .before .before .loop-test .taken),
-      inner .inv .2,
-      rw (add-one, ← there) (inner .inv .3),
-      next-edge t (start .args .points .now) (omega arith) (start .pre .1) (at .0) (inner .count) (accepted-file.few-blocks file (start .pre .0)) (at .1) (inner .inv .4 ∙ rw there refl),
+      rw (add-one, ← there) (inner .inv .1),
+      next-edge t (start .args .points .now) (omega arith) (start .pre .1) (at .0) (inner .count) (accepted-file.few-blocks file (start .pre .0)) (at .1) (inner .inv .2 ∙ rw there refl),
     )
 
 returns : tie.Need-returns Inv-loop2 μ-loop2 Inv-loop μ-loop
 returns c =
     let start = c .before .before .before .before .before .before .before .before in
     let l = c .before .loop in
-    at-end (taskOf (start .args .file .now)) (start .args .points .now) (omega (arith, c .before .before .before .before .block-count .ensures)) (start .pre .1) (l .inv .3) (omega (arith, c .before .before .before .before .block-count .ensures .0))
+    at-end (taskOf (start .args .file .now)) (start .args .points .now) (omega (arith, c .before .before .before .before .block-count .ensures)) (start .pre .1) (l .inv .2) (omega (arith, c .before .before .before .before .block-count .ensures .0))
 
 pub count-lines-spec : {M : Type 1} → statement M
 count-lines-spec =
@@ -264,6 +259,8 @@ count-lines-spec =
     loop-holds
     edge-after-requires
     add-region
+    add-here
+    cast-here
     add-k
     read-count-requires
     loop2-holds
@@ -279,7 +276,6 @@ count-lines-spec =
     add-count
     mul-held
     array-set-from-held
-    cast-since
     array-write-since
     add-j
     loop2-less

@@ -4,7 +4,6 @@ use Prim.Native.Nat.{_≤_}
 use mathlib.Core.Path.{_≡_, refl}
 use mathlib.Core.Bool.{Bool, true, false, _&&_}
 use native.Mathlib.Omega.{arith}
-use lib.Dec.{leb}
 use mir.Val.{boolByte}
 use borrow.Author.Needs.{needs}
 use Rattle.model.specs.Sets.{bit}
@@ -23,7 +22,7 @@ byte-is true = (refl, omega arith)
 byte-is false = (refl, omega arith)
 
 returns : tie.Need-returns
-returns c = rw (← c .holds .ensures) (byte-is (c .before .args .evicted && c .holds .result && leb (c .before .args .since) (c .before .args .from)))
+returns c = rw (← c .holds .ensures) (byte-is (c .before .args .evicted && c .holds .result && c .before .args .earlier))
 
 pub loads-spec : {M : Type 1} → statement M
 loads-spec = tie.close (tie.spec holds-requires cast-result returns)

@@ -1,52 +1,48 @@
--- `probe::probe_region` meets its contract: 9 for the bytes' length, and else what the planner answered.
+-- `probe::probe_region` meets its contract: what the planner answers is left, eight words and the length.
 -- Assumes nothing.
-use mathlib.Core.Path.{refl}
+use Prim.Native.Nat.{_*_}
+use mathlib.Core.Path.{_≡_}
 use native.Mathlib.Omega.{arith}
 use lib.ListN.{length}
-use borrow.Author.Tests.{eq-eqb, ne-eqb}
-use Rattle.probe.specs.Calls.{regionReturned, regionLeft}
-use Rattle.probe.proofs.Calls.{region-most}
 use borrow.Author.Needs.{needs}
 use Rattle.probe.proofs.probe_region.Statement.{statement}
 use Rattle.probe.proofs.probe_region.Tie as tie
 
-returned-requires : tie.Need-returned-requires
-returned-requires c κs = search needs
-
-returns : tie.Need-returns
-unfolding regionReturned regionLeft
-returns c = rw (ne-eqb (length (c .before .before .before .before .args .out .now)) 72 (λ l. omega arith)) (c .returned .ensures, refl)
-
 region-requires : tie.Need-region-requires
 region-requires c κs = search needs
 
-keep-region-requires : tie.Need-keep-region-requires
-keep-region-requires c κs = search needs
+words-of-requires : tie.Need-words-of-requires
+words-of-requires c κs = search needs
 
-returned-requires-2 : tie.Need-returned-requires-2
-returned-requires-2 c κs =
-    let start = c .before .before .before .before .before .before .before .before in
-    rw (c .before .before .before .before .region .ensures .0) (region-most (start .args .file .now) (start .args .a) (start .args .b))
+region-numbers-requires : tie.Need-region-numbers-requires
+region-numbers-requires c κs = search needs
+
+slice-aggregate-leave : tie.Need-slice-aggregate-leave
+slice-aggregate-leave c = search needs
+
+leave-requires : tie.Need-leave-requires
+leave-requires c κs = search needs
 
 same-length : tie.Need-same-length
 same-length c = search needs
 
-returns-2 : tie.Need-returns-2
-unfolding regionReturned regionLeft
-returns-2 c =
-    let start = c .before .before .before .before .before .before .before .before .before in
-    let answer = c .before .before .before .before .before .region .ensures in
-    let left = rw (answer .0, answer .1 .0, answer .1 .1) at (c .before .before .before .keep-region .ensures) in
-    rw (eq-eqb (length (start .args .out .now)) 72 (omega arith)) (rw (answer .0) at (c .returned2 .ensures), left)
+returns : tie.Need-returns
+returns c =
+    let kept = c .before .before in
+    let numbers = kept .before .before .before .before in
+    let words = numbers .before in
+    let answers = words .before .region .ensures in
+    let size : 8 * length (numbers .region-numbers .result) ≡ 72 = omega arith in
+    rw (size, numbers .region-numbers .ensures, words .words-of .ensures, answers .0, answers .1 .0, answers .1 .1) at (kept .leave .ensures)
 
 pub probe-region-spec : {M : Type 1} → statement M
 probe-region-spec =
     tie.close
     (tie.spec
-    returned-requires
-    returns
     region-requires
-    keep-region-requires
-    returned-requires-2
+    words-of-requires
+    region-numbers-requires
+    slice-aggregate-leave
+    leave-requires
     same-length
-    returns-2)
+    returns)

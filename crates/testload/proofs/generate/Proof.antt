@@ -10,13 +10,16 @@ use Rattle.testload.proofs.generate.Statement.{statement}
 use Rattle.testload.proofs.generate.Tie as tie
 
 -- the verdict is the one that the contract states
-decided : (c : tie.After-earlier) → let args = c .before .before .before .before .args in
+decided : (c : tie.After-earlier) → let args = c .before .before .before .before .before .args in
     c .earlier .result ≡ generateVerdict (args .blocks) (args .preempters) (args .line-count) (args .out .now)
 unfolding generateVerdict
-decided c = c .earlier .ensures ∙ ap₂ andThen (c .before .before .check-counts .ensures) (c .before .check-output .ensures)
+decided c = c .earlier .ensures ∙ ap₂ andThen (c .before .before .before .check-counts .ensures) (c .before .check-output .ensures ∙ rw (c .before .before .file-size .ensures))
 
 check-counts-requires : tie.Need-check-counts-requires
 check-counts-requires c κs = search needs
+
+file-size-requires : tie.Need-file-size-requires
+file-size-requires c κs = search needs
 
 check-output-requires : tie.Need-check-output-requires
 check-output-requires c κs = search needs
@@ -56,6 +59,7 @@ generate-spec =
     tie.close
     (tie.spec
     check-counts-requires
+    file-size-requires
     check-output-requires
     earlier-requires
     enum-told

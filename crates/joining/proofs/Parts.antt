@@ -24,17 +24,17 @@ module _ (file part : List ℕ) (e : verdict file ≡ Accepted) where
 -- what copies of the parts of both are
 module _ (first second : List ℕ) (e : verdict first ≡ Accepted) (f : verdict second ≡ Accepted) (k : ℕ) (source other old new : List ℕ)
     (copy : Appended k (copies source ++ copies other) old new) where
-  pub basics-joined : source ≡ basicBlocks (taskOf first) → other ≡ basicBlocks (taskOf second)
+  pub basics-appended : source ≡ basicBlocks (taskOf first) → other ≡ basicBlocks (taskOf second)
       → Appended k (map basicBytes (joined (taskOf first) (taskOf second) .blocks)) old new
   unfolding joined basicBlocks
-  basics-joined s o =
+  basics-appended s o =
       rw map-append
       (copied _ _ k _ _ source other old new (basics-roomy (taskOf first) (accepted-within first e)) (basics-roomy (taskOf second) (accepted-within second f)) s o copy)
 
-  pub preempters-joined : source ≡ preempterBlocks (taskOf first) → other ≡ preempterBlocks (taskOf second)
+  pub preempters-appended : source ≡ preempterBlocks (taskOf first) → other ≡ preempterBlocks (taskOf second)
       → Appended k (map preempterBytes (joined (taskOf first) (taskOf second) .preempters)) old new
   unfolding joined preempterBlocks
-  preempters-joined s o =
+  preempters-appended s o =
       rw map-append
       (copied _ _ k _ _ source other old new (preempters-roomy (taskOf first) (accepted-within first e))
       (preempters-roomy (taskOf second) (accepted-within second f)) s o copy)

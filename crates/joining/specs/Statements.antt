@@ -23,7 +23,7 @@ pub record ThreeAgree (t u v : Task) : Type 0 where
   pub last-two : agree u v ≡ true
   pub totals : countsFit (blockCount t + blockCount u + blockCount v) (length (t .preempters) + length (u .preempters) + length (v .preempters)) ≡ true
 
--- three such files, in buffers of the joined lengths, whatever these held: the same bytes, whether the first two or the last two are joined first
+-- either way of joining three such files in order, into buffers of the right lengths and whatever these held, leaves the same bytes
 abbrev pub JoinedInOrder : Type 0
 JoinedInOrder =
     (f g h two other three last : List ℕ) → IsAccepted f → IsAccepted g → IsAccepted h → ThreeAgree (taskOf f) (taskOf g) (taskOf h)

@@ -3,11 +3,11 @@ ghost use mathlib.Core.Path.{_≡_};
 ghost use lib.ListN.{drop, replicate};
 ghost use Prim.Native.Nat.{_-_, _<_, _≤_};
 ghost use Rattle.model.specs.Task.{blockCount};
-ghost use Rattle.model.specs.Answers.{onAccepted, pricing};
-ghost use Rattle.model.specs.Planning.{chosen, planFor, noPlan, Planned};
+ghost use Rattle.model.specs.Planning.{chosen, noPlan, Planned};
 ghost use Rattle.taskfile.specs.File.{IsAccepted, taskOf};
 ghost use Rattle.reuse.specs.Counts.{NewLines};
 ghost use Rattle.planning.specs.Choices.{ChoiceAt, Choices};
+ghost use Rattle.planning.specs.Plans.{PointsPlanned, planWith};
 use model::Plan;
 use model::Refusal;
 use model::Verdict;
@@ -25,7 +25,7 @@ pub struct FilePlan {
 pub fn price_points(file: &[u8], first: Plan) -> FilePlan
     requires { ⌜ IsAccepted (now file) ⌝ }
     requires { ⌜ (first .count ≤ 63) × (drop (first .count) (first .points) ≡ replicate (64 - first .count) 0) ⌝ }
-    ensures { λ r. ⌜ (r .verdict ≡ pricing (taskOf (now (file .entry))) (chosen first)) × (r .plan ≡ onAccepted (pricing (taskOf (now (file .entry))) (chosen first)) (planFor (taskOf (now (file .entry))) (chosen first)) noPlan) ⌝ }
+    ensures { λ r. ⌜ PointsPlanned (taskOf (now (file .entry))) (chosen first) (r .verdict) (r .plan) ⌝ }
 {
     let points = first.points;
     let count = first.count as usize;
@@ -43,7 +43,7 @@ pub fn price_points(file: &[u8], first: Plan) -> FilePlan
 // The plan of the first points, with their price; N and id are the file's.
 fn plan_of(file: &[u8], count: usize, points: [u16; 64], price: Price) -> Plan
     requires { ⌜ IsAccepted (now file) × (count ≤ 63) × (price .lines < 65536) ⌝ }
-    ensures { λ r. ⌜ r ≡ record { blocks = blockCount (taskOf (now (file .entry))); id = taskOf (now (file .entry)) .header .id; count = count; lines = price .lines; cost = price .cost; points = points } ⌝ }
+    ensures { λ r. ⌜ r ≡ planWith (taskOf (now (file .entry))) count points price ⌝ }
 {
     let blocks = taskfile::block_count(file) as u16;
     let header = taskfile::header(file);

@@ -40,3 +40,7 @@ pub record Weighs (header : Header) (time lines : ℕ) (r : Weighed) : Type 0 wh
   pub cost : (t : Task) (a b : ℕ) → Described t a b header time lines → r .cost ≡ regionCost t a b
   pub fits : (t : Task) (a b : ℕ) → Described t a b header time lines → r .fits ≡ regionFits t a b
   pub small : r .cost < 2 ^ 48
+
+-- the length, the cost and the fit of the region from edge a to edge b
+abbrev pub WeighsRegion : Task → ℕ → ℕ → Weighed → Type 0
+WeighsRegion t a b r = (r .length ≡ regionLength t a b) × (r .cost ≡ regionCost t a b) × (r .fits ≡ regionFits t a b) × (r .cost < 2 ^ 48)

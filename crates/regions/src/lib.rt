@@ -2,10 +2,10 @@
 ghost use mathlib.Core.Path.{_≡_};
 ghost use Prim.Native.Nat.{_+_, _-_, _*_, _^_, _≤_, _<_};
 ghost use Rattle.model.specs.Task.{Task, blockCount};
-ghost use Rattle.model.specs.Regions.{timeAfter, regionLines, regionLength, regionFits, regionCost};
+ghost use Rattle.model.specs.Regions.{timeAfter, regionLines};
 ghost use Rattle.taskfile.specs.File.{IsAccepted, taskOf};
 ghost use Rattle.reuse.specs.Counts.{NewLines};
-ghost use Rattle.regions.specs.Measures.{Measures, Weighs, Counted};
+ghost use Rattle.regions.specs.Measures.{Measures, Weighs, WeighsRegion, Counted};
 use lineset::LineSet;
 use model::Header;
 
@@ -55,7 +55,7 @@ pub fn measure(file: &[u8], a: usize, b: usize) -> MeasuredRegion
 // The length, the cost and the fit of the region from edge a to edge b, which loads so many lines.
 pub fn weigh_between(file: &[u8], a: usize, b: usize, lines: u32) -> Weighed
     requires { ⌜ IsAccepted (now file) × (a ≤ b) × (b ≤ blockCount (taskOf (now file))) × (lines ≡ regionLines (taskOf (now file)) a b) ⌝ }
-    ensures { λ r. ⌜ (r .length ≡ regionLength (taskOf (now (file .entry))) a b) × (r .cost ≡ regionCost (taskOf (now (file .entry))) a b) × (r .fits ≡ regionFits (taskOf (now (file .entry))) a b) × (r .cost < 2 ^ 48) ⌝ }
+    ensures { λ r. ⌜ WeighsRegion (taskOf (now (file .entry))) a b r ⌝ }
 {
     weigh(taskfile::header(file), time_between(file, a, b), lines)
 }

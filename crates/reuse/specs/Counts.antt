@@ -23,3 +23,15 @@ pub record Rereads (file counts : List ℕ) : Type 0 where
   pub long : length counts ≡ 4096
   pub few : (i : ℕ) → i < blockCount (taskOf file) → rowSum counts i 64 ≤ 124
   pub sums : (a i : ℕ) → a ≤ i → i < blockCount (taskOf file) → rowSum counts i a ≡ newLines (taskOf file) a (suc i)
+
+-- row i has at its columns up to i the sums of those before each
+abbrev pub SummedRow : ℕ → List ℕ → List ℕ → Type 0
+SummedRow i before after = (a : ℕ) → a ≤ i → getD after (64 * i + a) 0 ≡ rowSum before i a
+
+-- and so has each of the first rows
+abbrev pub SummedRows : ℕ → List ℕ → List ℕ → Type 0
+SummedRows rows before after = (a i : ℕ) → a ≤ i → i < rows → getD after (64 * i + a) 0 ≡ rowSum before i a
+
+-- no row but row i has changed
+abbrev pub OthersStay : ℕ → List ℕ → List ℕ → Type 0
+OthersStay i before after = (r a : ℕ) → (r ≡ i → ⊥) → a < 64 → getD after (64 * r + a) 0 ≡ getD before (64 * r + a) 0

@@ -7,13 +7,14 @@ ghost use lib.Dec.{eqb, ltb};
 ghost use lib.ListN.{length, getD, take, drop, replicate};
 ghost use Rattle.model.specs.Sets.{bit};
 ghost use Rattle.model.specs.Task.{blockCount};
-ghost use Rattle.model.specs.Lines.{isLine, onLine, firstRead, lookedAt, anyRead, sameBlock, readsOf, stateAfter, nextRead, readsLookedAt, asNext, accessed, evicted};
+ghost use Rattle.model.specs.Lines.{isLine, onLine, firstRead, lookedAt, anyRead, sameBlock, readsOf, nextRead, readsLookedAt, asNext, accessed, evicted};
 ghost use Rattle.model.specs.Lines as Lines;
 ghost use Rattle.model.specs.Regions.{unionAfter};
 ghost use Rattle.lineset.specs.Members.{members};
 ghost use Rattle.taskfile.specs.File.{IsAccepted, counts, taskOf, entryReads};
 ghost use Rattle.cacheline.specs.Geometries.{GeometryOf, WithinCache};
-ghost use Rattle.reuse.specs.Counts.{NewLines, Rereads, rowSum};
+ghost use Rattle.reuse.specs.Counts.{NewLines, Rereads, rowSum, SummedRow, SummedRows, OthersStay};
+ghost use Rattle.reuse.specs.States.{HeldAfter, MarkedToo};
 ghost use Rattle.reuse.specs.FirstReads.{firstIn, Noted};
 use cacheline::Geometry;
 use lineset::LineSet;
@@ -227,7 +228,7 @@ fn reread_lines(held: [Line; 512], read: &[bool; 512], first: &[u32; 512], count
 // What each line holds after basic blocks 1 to k.
 fn held_after(file: &[u8], cache: Geometry, k: usize) -> [Line; 512]
     requires { ⌜ IsAccepted (now file) × (k ≤ blockCount (taskOf (now file))) × GeometryOf (taskOf (now file)) cache ⌝ }
-    ensures { λ r. ⌜ (length r ≡ 512) × ((c : ℕ) → c < 512 → getD r c Line.Empty ≡ stateAfter (taskOf (now (file .entry))) k c) ⌝ }
+    ensures { λ r. ⌜ HeldAfter (taskOf (now (file .entry))) k r ⌝ }
 {
     let mut held = [Line::Empty; 512];
     let mut i = 0;
@@ -306,7 +307,7 @@ fn mark_reads(marks: &mut [bool; 512], file: &[u8], cache: Geometry, k: usize)
     requires { ⌜ IsAccepted (now file) × (1 ≤ k) × (k ≤ counts (now file) .blocks + counts (now file) .preempters) ⌝ }
     requires { ⌜ GeometryOf (taskOf (now file)) cache ⌝ }
     ensures { λ _. ⌜ length (now (marks .exit)) ≡ 512 ⌝ }
-    ensures { λ _. ⌜ ((d : ℕ) → d < 512 → getD (now (marks .exit)) d false ≡ (getD (now (marks .entry)) d false || anyRead (onLine (taskOf (now (file .entry))) d) (entryReads (now (file .entry)) k))) ⌝ }
+    ensures { λ _. ⌜ MarkedToo (λ d. anyRead (onLine (taskOf (now (file .entry))) d) (entryReads (now (file .entry)) k)) (now (marks .entry)) (now (marks .exit)) ⌝ }
 {
     let reads = taskfile::read_count(file, k);
     let mut j = 0;
@@ -321,7 +322,7 @@ fn mark_reads(marks: &mut [bool; 512], file: &[u8], cache: Geometry, k: usize)
 fn mark(marks: &mut [bool; 512], mapping: Mapping)
     requires { ⌜ (length (now marks) ≡ 512) × WithinCache mapping ⌝ }
     ensures { λ _. ⌜ length (now (marks .exit)) ≡ 512 ⌝ }
-    ensures { λ _. ⌜ ((d : ℕ) → d < 512 → getD (now (marks .exit)) d false ≡ (getD (now (marks .entry)) d false || isLine d mapping)) ⌝ }
+    ensures { λ _. ⌜ MarkedToo (λ d. isLine d mapping) (now (marks .entry)) (now (marks .exit)) ⌝ }
 {
     match mapping {
         Mapping::Uncached => {}
@@ -408,7 +409,7 @@ fn reread(line: Line, number: u32, evicted: bool) -> u8
 fn sum_rows(counts: &mut [u8; 4096], rows: usize)
     requires { ⌜ (length (now counts) ≡ 4096) × (rows ≤ 64) × ((i : ℕ) → i < rows → rowSum (now counts) i 64 ≤ 124) ⌝ }
     ensures { λ _. ⌜ length (now (counts .exit)) ≡ 4096 ⌝ }
-    ensures { λ _. ⌜ ((a i : ℕ) → a ≤ i → i < rows → getD (now (counts .exit)) (64 * i + a) 0 ≡ rowSum (now (counts .entry)) i a) ⌝ }
+    ensures { λ _. ⌜ SummedRows rows (now (counts .entry)) (now (counts .exit)) ⌝ }
 {
     let mut i = 0;
     while i < rows {
@@ -421,8 +422,8 @@ fn sum_rows(counts: &mut [u8; 4096], rows: usize)
 fn sum_row(counts: &mut [u8; 4096], i: usize)
     requires { ⌜ (length (now counts) ≡ 4096) × (i < 64) × (rowSum (now counts) i 64 ≤ 124) ⌝ }
     ensures { λ _. ⌜ length (now (counts .exit)) ≡ 4096 ⌝ }
-    ensures { λ _. ⌜ ((a : ℕ) → a ≤ i → getD (now (counts .exit)) (64 * i + a) 0 ≡ rowSum (now (counts .entry)) i a) ⌝ }
-    ensures { λ _. ⌜ ((r a : ℕ) → (r ≡ i → ⊥) → a < 64 → getD (now (counts .exit)) (64 * r + a) 0 ≡ getD (now (counts .entry)) (64 * r + a) 0) ⌝ }
+    ensures { λ _. ⌜ SummedRow i (now (counts .entry)) (now (counts .exit)) ⌝ }
+    ensures { λ _. ⌜ OthersStay i (now (counts .entry)) (now (counts .exit)) ⌝ }
 {
     let mut sum = 0u8;
     let mut a = 0;

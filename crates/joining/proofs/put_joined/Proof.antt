@@ -11,8 +11,8 @@ use Rattle.model.specs.Task.{blockCount}
 use Rattle.taskfile.specs.File.{basicBytes, preempterBytes, taskOf}
 use Rattle.writer.proofs.Laws.{appended-both, task-closed}
 use Rattle.joining.specs.Joining.{joined}
-use Rattle.joining.proofs.Tasks as tasks
-use Rattle.joining.proofs.Parts.{basics-length, preempters-length, basics-joined, preempters-joined}
+use Rattle.joining.proofs.Tasks.{count-joined, preempters-joined}
+use Rattle.joining.proofs.Parts.{basics-length, preempters-length, basics-appended, preempters-appended}
 use Rattle.joining.proofs.put_joined.Statement.{statement}
 use Rattle.joining.proofs.put_joined.Tie as tie
 
@@ -25,8 +25,8 @@ room c =
     let t = taskOf (c .args .first .now) in
     let u = taskOf (c .args .second .now) in
     let totals = c .pre .1 .0 in
-    let n = totals .blocks ∙ tasks.count-joined t u in
-    let m = totals .preempters ∙ tasks.preempters-joined t u in
+    let n = totals .blocks ∙ count-joined t u in
+    let m = totals .preempters ∙ preempters-joined t u in
     (omega (arith, m), n, omega (arith, totals .fit))
 
 joined-header-requires : tie.Need-joined-header-requires
@@ -88,9 +88,9 @@ returns c =
     let bs = map basicBytes (t .blocks) in
     let ps = map preempterBytes (t .preempters) in
     let behind : args .blocks ≡ 0 + length bs = totals .blocks ∙ sym (length-map (t .blocks) basicBytes) ∙ sym (zero-add (length bs)) in
-    let a = basics-joined first second (start .pre .0 .0) (start .pre .0 .1) 0 _ _ (args .out .now) (basics .copy-both .last .0) (basics .copy-both .ensures)
+    let a = basics-appended first second (start .pre .0 .0) (start .pre .0 .1) 0 _ _ (args .out .now) (basics .copy-both .last .0) (basics .copy-both .ensures)
     (basics .before .before .basic-blocks .ensures) (basics .before .basic-blocks2 .ensures) in
-    let b = preempters-joined first second (start .pre .0 .0) (start .pre .0 .1) (args .blocks) _ _ (basics .copy-both .last .0) (preempters .copy-both2 .last .0)
+    let b = preempters-appended first second (start .pre .0 .0) (start .pre .0 .1) (args .blocks) _ _ (basics .copy-both .last .0) (preempters .copy-both2 .last .0)
     (preempters .copy-both2 .ensures) (preempters .before .before .preempter-blocks .ensures) (preempters .before .preempter-blocks2 .ensures) in
     closed .close-file .ensures ∙
     rw (made .joined-header .ensures)

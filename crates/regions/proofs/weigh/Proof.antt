@@ -1,10 +1,12 @@
 -- `regions::weigh` meets its contract: the sums are those of the definitions, and fit in 64 bits.
 -- Assumes nothing.
-use Prim.Native.Nat.{_*_, _≤_}
-use mathlib.Core.Path.{refl}
+use Prim.Native.Nat.{_+_, _*_, _≤_}
+use mathlib.Core.Path.{ap, ap₂}
 use native.Mathlib.Omega.{arith}
+use lib.Dec.{leb}
 use borrow.Author.Needs.{needs}
 use Rattle.model.specs.Regions.{regionLength, regionFits, regionCost}
+use Rattle.model.specs.declared.Header.{Header}
 use Rattle.regions.proofs.Widths.{cost-le}
 use Rattle.regions.proofs.weigh.Statement.{statement}
 use Rattle.regions.proofs.weigh.Tie as tie
@@ -28,9 +30,10 @@ returns : tie.Need-returns
 unfolding regionLength regionFits regionCost
 returns c =
     record {
-      length = λ t a b d. rw (d .header-is, d .time-is, d .lines-are) refl;
-      cost = λ t a b d. rw (d .header-is, d .lines-are) refl;
-      fits = λ t a b d. rw (d .header-is, d .time-is, d .lines-are) refl;
+      length = λ t a b d. ap₂ _+_ (d .time-is) (ap₂ _*_ (ap (λ (h : Header). h .reload) (d .header-is)) (d .lines-are));
+      cost = λ t a b d. ap₂ _*_ (ap (λ (h : Header). h .reload) (d .header-is)) (d .lines-are);
+      fits = λ t a b d.
+          ap₂ leb (ap₂ _+_ (d .time-is) (ap₂ _*_ (ap (λ (h : Header). h .reload) (d .header-is)) (d .lines-are))) (ap (λ (h : Header). h .limit) (d .header-is));
       small = omega (arith, small (c .before));
     }
 

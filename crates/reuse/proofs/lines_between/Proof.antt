@@ -1,6 +1,6 @@
 -- `reuse::lines_between` meets its contract: what is noted behind edge a is each line's next read, and a line beyond the cache is not useful.
 -- Assumes nothing.
-use mathlib.Core.Path.{_≡_, sym, ap₂, _∙_}
+use mathlib.Core.Path.{_≡_, refl, sym, ap₂, _∙_}
 use mathlib.Core.Logic.{by-cases}
 use native.Mathlib.Decide.{decLt}
 use native.Mathlib.Omega.{arith}
@@ -21,7 +21,9 @@ held-after-requires : tie.Need-held-after-requires
 held-after-requires c κs = search needs
 
 first-lines-requires : tie.Need-first-lines-requires
-first-lines-requires c κs = search needs
+first-lines-requires c κs =
+    let start = c .before .before .before .before .before in
+    ((refl, refl), (start .pre .0, omega arith, omega arith, c .before .before .before .geometry-of .ensures))
 
 block-count-requires : tie.Need-block-count-requires
 block-count-requires c κs = search needs

@@ -1,4 +1,4 @@
--- What the methods' stores do to the lines that the words hold, and when two sets are one value.
+-- What the methods' stores do to the lines that the words hold, and that a set's words are those of its lines.
 -- Assumes nothing.
 use mathlib.Core.Bool.{Bool, true, false, cond, _&&_, _||_, and-false}
 use mathlib.Core.List.{List}
@@ -15,10 +15,9 @@ use lib.Count.{ones}
 use lib.Dec.{eqb, ltb}
 use lib.ListN.{length, getD, set, replicate, length-set}
 use lib.Seq.{getD-set-same, getD-set-other}
-use mir.Val.{boolByte}
 use Rattle.model.specs.Sets.{Lines, countBelow, digit, words, inWords}
 use Rattle.model.proofs.Digits.{digit-of-zero, digit-or, digit-shl, count-add, count-agree, count-ones}
-use Rattle.model.proofs.Sets.{Eight, in-word, in-eight-above, same-words, words-in, words-agree}
+use Rattle.model.proofs.Sets.{Eight, in-word, in-eight-above, words-in, words-agree}
 use Rattle.lineset.specs.Members.{members}
 use Rattle.lineset.specs.declared.LineSet.{LineSet}
 
@@ -33,7 +32,7 @@ pub in-zeros : (n d : ℕ) → inWords (replicate n 0) d ≡ false
 unfolding inWords
 in-zeros n d = rw (zeros-at n (d / 64)) (digit-of-zero (d % 64))
 
--- ---- one line's word changed
+-- ---- a line of a word
 
 eqb-low : (d line : ℕ) → d / 64 ≡ line / 64 → eqb (d % 64) (line % 64) ≡ eqb d line
 eqb-low d line q = go (ℕ-discrete d line)
@@ -41,24 +40,6 @@ eqb-low d line q = go (ℕ-discrete d line)
     go : Dec (d ≡ line) → eqb (d % 64) (line % 64) ≡ eqb d line
     go (yes e) = eq-eqb _ _ (ap (λ (x : ℕ). x % 64) e) ∙ sym (eq-eqb d line e)
     go (no n) = ne-eqb _ _ (λ (e : d % 64 ≡ line % 64). n (omega arith)) ∙ sym (ne-eqb d line n)
-
--- a bit, shifted to the line's digit, is joined with the line's word: the line is joined with the bit, and the others stay
-pub in-changed : (op : ℕ → ℕ → ℕ) (f : Bool → Bool → Bool) → ((a b j : ℕ) → digit (op a b) j ≡ f (digit a j) (digit b j))
-    → ((x : Bool) → f x false ≡ x) → (b : Bool) (ws : List ℕ) (line d : ℕ) → length ws ≡ 8 → line < 512
-    → inWords (set ws (line / 64) (op (getD ws (line / 64) 0) (boolByte b * 2 ^ bitAnd line 63 % 2 ^ 64))) d ≡ f (inWords ws d) (b && eqb d line)
-unfolding inWords
-in-changed op f dig stays b ws line d e8 h = go (ℕ-discrete (d / 64) (line / 64))
-  where
-    v : ℕ
-    v = op (getD ws (line / 64) 0) (boolByte b * 2 ^ bitAnd line 63 % 2 ^ 64)
-
-    go : Dec (d / 64 ≡ line / 64) → inWords (set ws (line / 64) v) d ≡ f (inWords ws d) (b && eqb d line)
-    go (yes e) =
-        rw (e, getD-set-same ws (line / 64) v 0 (omega arith), dig, and-mask line 6)
-        (rw (digit-shl b 64 (line % 64) (d % 64) (omega arith), eqb-low d line e))
-    go (no n) =
-        rw (getD-set-other ws (line / 64) (d / 64) v 0 n, ne-eqb d line (λ e. n (ap (λ (x : ℕ). x / 64) e)), and-false)
-        (sym (stays _))
 
 -- ---- each of the eight words joined with a number of its own
 
@@ -140,12 +121,6 @@ pub count-word : (ws : List ℕ) (w : ℕ) → getD ws w 0 < 2 ^ 64
 count-word ws w h =
     let e : (w + 1) * 64 ≡ w * 64 + 64 = omega arith in
     rw (e, count-add, count-agree 64 (in-word ws w), ← count-ones 64 (getD ws w 0) h)
-
--- ---- sets with the same lines are one value
-
-pub same-set : (r s : LineSet) → Eight (r .words) → Eight (s .words)
-    → ((d : ℕ) → d < 512 → members r d ≡ members s d) → r ≡ s
-same-set r s hr hs h = λ i. record { words = same-words hr hs h i }
 
 -- a set's words are those of its members
 pub set-words : (f : Lines) (s : LineSet) → Eight (s .words) → ((d : ℕ) → d < 512 → members s d ≡ f d) → s .words ≡ words f

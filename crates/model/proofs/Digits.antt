@@ -1,6 +1,6 @@
 -- The binary digits of a number, as a set. A number is taken apart into its lowest digit and its half, so each law is an induction on the width.
 -- Assumes nothing.
-use mathlib.Core.Bool.{Bool, true, false, _&&_, _||_, xor}
+use mathlib.Core.Bool.{Bool, true, false, _&&_, _||_}
 use mathlib.Core.Path.{_≡_, refl, sym, ap, ap₂, _∙_, fun-ext}
 use Prim.Native.Nat.{ℕ, zero, suc, _+_, _*_, _/_, _%_, _^_, _≤_, _<_, zero-le}
 use native.Mathlib.Nat.{le-refl, le-of-suc-le-suc, not-suc-le-zero, zero-lt-suc, zero-add, add-zero, add-suc, add-assoc, one-mul, mul-assoc, pow-suc}
@@ -11,7 +11,7 @@ use native.Mathlib.Decide.{ℕ-discrete}
 use mathlib.Core.Logic.{by-cases}
 use borrow.Author.Tests.{eq-eqb, ne-eqb}
 use lib.Arith.{lt-one}
-use lib.Bits.{bitAnd, bitOr, bitXor, and-shr, and-mod, or-shr, or-mod, xor-shr, xor-mod}
+use lib.Bits.{bitAnd, bitOr, and-shr, and-mod, or-shr, or-mod}
 use lib.Count.{ones, ones-step}
 use lib.Dec.{eqb, lit<, eqb·suc-suc, eqb·suc-zero, eqb·zero-suc}
 use lib.Pow.{shl-exact, shr-shr}
@@ -66,24 +66,11 @@ and-each (suc zero) (suc zero) hu hv = refl
 and-each (suc zero) (suc (suc v)) hu hv = absurd (omega arith)
 and-each (suc (suc u)) v hu hv = absurd (omega arith)
 
-xor-each : (u v : ℕ) → u < 2 → v < 2 → eqb (bitXor u v) 1 ≡ xor (eqb u 1) (eqb v 1)
-unfolding xor
-xor-each zero zero hu hv = refl
-xor-each zero (suc zero) hu hv = refl
-xor-each zero (suc (suc v)) hu hv = absurd (omega arith)
-xor-each (suc zero) zero hu hv = refl
-xor-each (suc zero) (suc zero) hu hv = refl
-xor-each (suc zero) (suc (suc v)) hu hv = absurd (omega arith)
-xor-each (suc (suc u)) v hu hv = absurd (omega arith)
-
 pub digit-or : (a b j : ℕ) → digit (bitOr a b) j ≡ (digit a j || digit b j)
 digit-or = digit-op bitOr _||_ or-shr or-mod or-each
 
 pub digit-and : (a b j : ℕ) → digit (bitAnd a b) j ≡ (digit a j && digit b j)
 digit-and = digit-op bitAnd _&&_ and-shr and-mod and-each
-
-pub digit-xor : (a b j : ℕ) → digit (bitXor a b) j ≡ xor (digit a j) (digit b j)
-digit-xor = digit-op bitXor xor xor-shr xor-mod xor-each
 
 pub digit-of-zero : (j : ℕ) → digit 0 j ≡ false
 digit-of-zero j = ap (λ (x : ℕ). eqb (x % 2) 1) (zero-div (2 ^ j))

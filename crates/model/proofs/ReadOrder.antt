@@ -5,7 +5,7 @@ use mathlib.Core.Path.{_≡_, refl, sym, ap, _∙_}
 use mathlib.Core.List.{List, [], _∷_, _++_, append-assoc, append-nil}
 use native.Mathlib.Omega.{arith}
 use lib.ListN.{length, getD, take, drop, take-append-drop, length-append, List·getD-append}
-use lib.Seq.{take-add, take-suc, take-length, drop-cons, take-append-seam, drop-append-seam, getD-append-add}
+use lib.Seq.{take-add, take-suc, take-length, drop-cons, take-append-seam, getD-append-add}
 use Rattle.model.specs.Task.{Block, Task, blockCount, noBlock}
 use Rattle.model.specs.Lines.{readsOf, blockAt}
 
@@ -26,9 +26,6 @@ module _ (t : Task) where
 
   pub take-edge : (k : ℕ) → take (edge t k) (allReads t) ≡ readsOf (take k (t .blocks))
   take-edge k = ap (take (edge t k)) (halves k) ∙ take-append-seam (readsOf (take k (t .blocks))) (readsOf (drop k (t .blocks)))
-
-  pub drop-edge : (k : ℕ) → drop (edge t k) (allReads t) ≡ readsOf (drop k (t .blocks))
-  drop-edge k = ap (drop (edge t k)) (halves k) ∙ drop-append-seam (readsOf (take k (t .blocks))) (readsOf (drop k (t .blocks)))
 
   pub edge-rises : (k l : ℕ) → k ≤ l → edge t k ≤ edge t l
   edge-rises k l h =

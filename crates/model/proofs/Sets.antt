@@ -102,10 +102,6 @@ words-agree {s} {t} h =
 pub size-agree : {s t : Lines} → ((c : ℕ) → c < 512 → s c ≡ t c) → size s ≡ size t
 size-agree h = count-agree 512 h
 
--- words that hold the same lines are equal
-pub same-words : {ws vs : List ℕ} → Eight ws → Eight vs → ((c : ℕ) → c < 512 → inWords ws c ≡ inWords vs c) → ws ≡ vs
-same-words h k e = sym (words-in h) ∙ words-agree e ∙ words-in k
-
 -- the lines of a set counted word by word
 
 ones-word : (s : Lines) (w : ℕ) → ones (word s w) ≡ countBelow 64 (λ j. s (w * 64 + j))

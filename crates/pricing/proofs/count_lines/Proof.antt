@@ -1,6 +1,6 @@
 -- `pricing::count_lines` meets its contract. Both loops keep what the lines hold and since when, and the regions counted.
 -- Assumes nothing.
-use Prim.Native.Nat.{suc, _+_, _-_, _*_, _≤_, _<_}
+use Prim.Native.Nat.{suc, _+_, _-_, _≤_, _<_}
 use mathlib.Core.Path.{_≡_, refl, sym, ap, ap₂, _∙_}
 use mathlib.Core.Logic.{⊎-elim}
 use native.Mathlib.Nat.{add-zero}

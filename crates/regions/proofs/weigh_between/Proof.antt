@@ -1,6 +1,5 @@
 -- `regions::weigh_between` meets its contract: these are the region's numbers.
 -- Assumes nothing.
-use mathlib.Core.Path.{_∙_}
 use native.Mathlib.Omega.{arith}
 use borrow.Author.Needs.{needs}
 use Rattle.model.proofs.Regions.{lines-region}

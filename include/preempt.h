@@ -9,7 +9,7 @@
 extern "C" {
 #endif
 
-#define PREEMPT_VERSION "0.1.0"
+#define PREEMPT_VERSION "0.2.0"
 
 #define PREEMPT_BLOCK_BYTES 512
 #define PREEMPT_FILE_BYTES_MOST 49664 /* a task file of 97 blocks */
@@ -39,9 +39,9 @@ enum preempt_number {
     PREEMPT_BLOCK_COUNT = 4, /* file: it has not as many blocks as its header says */
     PREEMPT_BLOCK = 5,       /* file: a block has a wrong kind, number, count or zero byte; place: the lowest such block.
                                 points: a wrong kind, number, count or zero byte, or points that do not rise below its own N */
-    PREEMPT_NONE_FITS = 6,   /* planning: each list of points has a region above the limit */
+    PREEMPT_NONE_FITS = 6,   /* planning: each list of points has a region above a limit that counts for it */
     PREEMPT_POINT = 7,       /* pricing: a point is not below the file's basic blocks; place: the lowest such index, from 0 */
-    PREEMPT_ABOVE_LIMIT = 8, /* pricing: a region is above the limit; place: the lowest such region, from 0 */
+    PREEMPT_ABOVE_LIMIT = 8, /* pricing: a region is above a limit that counts for it; place: the lowest such region, from 0 */
     PREEMPT_OUTPUT = 9       /* block_len is not 512 */
 };
 

@@ -24,18 +24,19 @@ def block(number, start):
     return sealed(start.ljust(504, b"\0") + struct.pack("<I", number) + bytes(4))
 
 
-def header(n, m, s, q, r, ident, first=0, count=0):
-    return block(0, struct.pack("<BBHHHIIIII", 1, 0, n, m, s, q, r, ident, first, count))
+def header(n, m, s, q, r, ident, first=0, count=0, second=0):
+    return block(0, struct.pack("<BBHHHIIIIII", 1, 0, n, m, s, q, r, ident, first, count, second))
 
 
-def entry(kind, number, value, reads):
-    return block(number, struct.pack(f"<BBHI{len(reads)}I", kind, 0, len(reads), value, *reads))
+def entry(kind, number, value, reads, armed=False):
+    return block(number, struct.pack(f"<BBHI{len(reads)}I", kind, armed, len(reads), value, *reads))
 
 
 class Task:
-    def __init__(self, s, q, r, ident, blocks, preempters, first=0, count=0):
+    def __init__(self, s, q, r, ident, blocks, preempters, first=0, count=0, second=0, armed=()):
         self.s, self.q, self.r, self.ident = s, q, r, ident
         self.first, self.count = first, count  # the memory blocks that bypass the cache
+        self.second, self.armed = second, set(armed)  # Q2, and the basic blocks in which the sampler is armed
         self.blocks = blocks  # pairs of a time and the numbers read
         self.preempters = preempters  # pairs of an id and the numbers read
         self.n = len(blocks)
@@ -51,9 +52,9 @@ class Task:
         return {m % self.s for m in self.cached(reads)}
 
     def file(self):
-        b = header(self.n, len(self.preempters), self.s, self.q, self.r, self.ident, self.first, self.count)
+        b = header(self.n, len(self.preempters), self.s, self.q, self.r, self.ident, self.first, self.count, self.second)
         for i, (time, reads) in enumerate(self.blocks):
-            b += entry(2, 1 + i, time, reads)
+            b += entry(2, 1 + i, time, reads, 1 + i in self.armed)
         for i, (ident, reads) in enumerate(self.preempters):
             b += entry(3, 1 + self.n + i, ident, reads)
         return b
@@ -76,6 +77,11 @@ class Task:
     def length(self, a, b):
         return sum(time for time, _ in self.blocks[a:b]) + self.r * len(self.loaded(a, b))
 
+    def fits(self, a, b):
+        """Within Q, and within Q2 too if one of blocks a + 1 to b is armed."""
+        limits = [self.q] + [self.second for k in range(a + 1, b + 1) if k in self.armed]
+        return all(self.length(a, b) <= limit for limit in limits)
+
     def price(self, points):
         """(lines, cost), or a refusal as text."""
         before = 0
@@ -86,7 +92,7 @@ class Task:
         edges = [0, *points, self.n]
         regions = list(zip(edges, edges[1:]))
         for i, (a, b) in enumerate(regions):
-            if self.length(a, b) > self.q:
+            if not self.fits(a, b):
                 return f"refused 8 at {i}"
         lines = sum(len(self.loaded(a, b)) for a, b in regions)
         return lines, self.r * lines
@@ -98,7 +104,7 @@ class Task:
             found = [
                 (self.r * len(self.loaded(a, b)) + least[b][0], ([b] if b < self.n else []) + least[b][1])
                 for b in range(a + 1, self.n + 1)
-                if b in least and self.length(a, b) <= self.q
+                if b in least and self.fits(a, b)
             ]
             if found:
                 least[a] = min(found)
@@ -110,11 +116,19 @@ def seven(q, blocks=None, first=0, count=0, preempter=(1, [4, 1])):
     return Task(4, q, 10, 7, blocks, [preempter], first, count)
 
 
+def armed_seven(second, armed):
+    """File Seven at Q 60 with this Q2 and these blocks armed."""
+    task = seven(60)
+    task.second, task.armed = second, set(armed)
+    return task
+
+
 def join(one, other):
     """Both tasks as one."""
     assert (one.s, one.r, one.first, one.count) == (other.s, other.r, other.first, other.count)
     blocks, preempters = one.blocks + other.blocks, one.preempters + other.preempters
-    return Task(one.s, min(one.q, other.q), one.r, one.ident, blocks, preempters, one.first, one.count)
+    second, armed = min(one.second, other.second), one.armed | {one.n + k for k in other.armed}
+    return Task(one.s, min(one.q, other.q), one.r, one.ident, blocks, preempters, one.first, one.count, second, armed)
 
 
 # A file as the document has it, but that one or more bytes are changed: (block, position) to value.
@@ -161,7 +175,7 @@ def taskfile_cases():
         return damaged(f, changes, seal=False)
 
     one = small_header(1, 0, 4) + empty_entries(1, 0)
-    any_value = Task(4, MOST, MOST, MOST, [(MOST, [MOST, 0, MOST])], [(MOST, [MOST, 0])])
+    any_value = Task(4, MOST, MOST, MOST, [(MOST, [MOST, 0, MOST])], [(MOST, [MOST, 0])], second=MOST, armed=[1])
     all_zero = Task(1, 0, 0, 0, [(0, [0, 0])], [(0, [0])])
     full = entry(2, 1, 20, list(range(124)))
     full_file = small_header(1, 0, 4) + full
@@ -189,7 +203,7 @@ def taskfile_cases():
         ("header-number", bad({(0, 504): 1}), "refused 3 at 0"),
         ("header-number-high", bad({(0, 507): 1}), "refused 3 at 0"),
         ("header-byte-1", bad({(0, 1): 1}), "refused 3 at 0"),
-        ("header-byte-28", bad({(0, 28): 1}), "refused 3 at 0"),
+        ("header-byte-32", bad({(0, 32): 1}), "refused 3 at 0"),
         ("header-byte-503", bad({(0, 503): 1}), "refused 3 at 0"),
         ("n-0", small_header(0, 1, 4) + empty_entries(0, 1), "refused 3 at 0"),
         ("n-65", small_header(65, 0, 4) + empty_entries(65, 0), "refused 3 at 0"),
@@ -197,8 +211,8 @@ def taskfile_cases():
         ("m-33", small_header(1, 33, 4) + empty_entries(1, 33), "refused 3 at 0"),
         ("s-0", small_header(1, 0, 0) + empty_entries(1, 0), "refused 3 at 0"),
         ("s-513", small_header(1, 0, 513) + empty_entries(1, 0), "refused 3 at 0"),
-        # the scratch range: each byte of its first number and of its count, and the sums
-        *((f"header-byte-{at}", bad({(0, at): 255}), good) for at in range(20, 28)),
+        # each byte of the scratch range's first number and of its count, and of Q2; and the sums of the range
+        *((f"header-byte-{at}", bad({(0, at): 255}), good) for at in range(20, 32)),
         ("scratch-first-largest", scratch(MOST, 0), good),
         ("scratch-count-largest", scratch(0, MOST), good),
         ("scratch-first-to-2-32", scratch(MOST, 1), good),
@@ -220,7 +234,10 @@ def taskfile_cases():
         ("basic-kind-1", bad({(1, 0): 1}), "refused 5 at 1"),
         ("basic-number", bad({(3, 504): 2}), "refused 5 at 3"),
         ("basic-number-high", bad({(3, 505): 1}), "refused 5 at 3"),
-        ("basic-byte-1", bad({(4, 1): 1}), "refused 5 at 4"),
+        ("basic-armed", bad({(4, 1): 1}), good),
+        ("basic-all-armed", bad({(1, 1): 1, (2, 1): 1, (3, 1): 1, (4, 1): 1}), good),
+        ("basic-byte-1-2", bad({(4, 1): 2}), "refused 5 at 4"),
+        ("basic-byte-1-255", bad({(1, 1): 255}), "refused 5 at 1"),
         ("basic-after-reads", bad({(1, 16): 1}), "refused 5 at 1"),
         ("basic-byte-503", bad({(4, 503): 1}), "refused 5 at 4"),
         ("r-0", small_header(1, 0, 4) + entry(2, 1, 20, []), good),
@@ -233,15 +250,16 @@ def taskfile_cases():
         # the preempter blocks
         ("preempter-kind-2", bad({(5, 0): 2}), "refused 5 at 5"),
         ("preempter-number", bad({(5, 504): 0}), "refused 5 at 5"),
+        ("preempter-armed", bad({(5, 1): 1}), "refused 5 at 5"),
         ("preempter-byte-1", bad({(5, 1): 255}), "refused 5 at 5"),
         ("preempter-after-reads", bad({(5, 16): 1}), "refused 5 at 5"),
         # two at once
-        ("blocks-2-4", bad({(4, 1): 1, (2, 503): 1}), "refused 5 at 2"),
+        ("blocks-2-4", bad({(4, 1): 2, (2, 503): 1}), "refused 5 at 2"),
         ("blocks-3-5", bad({(5, 0): 2, (3, 504): 9}), "refused 5 at 3"),
         ("blocks-swapped", f[:512] + f[1024:1536] + f[512:1024] + f[1536:], "refused 5 at 1"),
         ("header-and-sum-4", damaged(bad({(0, 0): 2}), {(4, 4): 1}, seal=False), "refused 2 at 4"),
         ("header-and-count", bad({(0, 1): 1})[: 5 * 512], "refused 3 at 0"),
-        ("header-and-block-1", bad({(0, 28): 1, (1, 1): 1}), "refused 3 at 0"),
+        ("header-and-block-1", bad({(0, 32): 1, (1, 1): 2}), "refused 3 at 0"),
         ("count-and-block-2", bad({(2, 0): 9})[: 5 * 512], "refused 4 at 0"),
         ("count-and-sum-2", unsealed({(2, 8): 77})[: 5 * 512], "refused 2 at 2"),
         ("block-1-and-sum-5", damaged(bad({(1, 0): 3}), {(5, 9): 1}, seal=False), "refused 2 at 5"),
@@ -250,6 +268,23 @@ def taskfile_cases():
         ("all-largest", any_value.file(), good),
         ("all-zero", all_zero.file(), good),
     ]
+
+
+# Q2 and the blocks in which the sampler is armed
+ARMED = [
+    ("none", 0, []),
+    ("1", 20, [1]),
+    ("1-19", 19, [1]),
+    ("3", 30, [3]),
+    ("3-29", 29, [3]),
+    ("3-50", 50, [3]),
+    ("4", 30, [4]),
+    ("4-50", 50, [4]),
+    ("2-and-3", 30, [2, 3]),
+    ("all-39", 39, [1, 2, 3, 4]),
+    ("all-40", 40, [1, 2, 3, 4]),
+    ("all-70", 70, [1, 2, 3, 4]),
+]
 
 
 def planner_tasks():
@@ -268,6 +303,7 @@ def planner_tasks():
         ("seven-scratch", seven(60, first=0, count=1)),  # number 0 bypasses the cache
         ("seven-scratch-4", seven(60, first=4, count=1)),  # 4 does, which the preempter reads
         ("seven-scratch-4-other", seven(60, first=4, count=1, preempter=(0, [4, 9, 4]))),  # line 1, as seven-scratch-4's
+        *((f"seven-armed-{name}", armed_seven(second, armed)) for name, second, armed in ARMED),
         ("one-60", seven(60, lone)),
         ("one-59", seven(59, lone)),
         ("last-read", seven(40, [(20, [0]), (20, [2]), (20, [0])])),  # the last read of line 0 is its only reload
@@ -282,8 +318,8 @@ def planner_tasks():
 
 
 def joined_tasks():
-    ticket = Task(8, 100, 5, 21, [(30, [1, 2, 64]), (25, [3, 1])], [(501, [9])], 64, 8)
-    archive = Task(8, 90, 5, 22, [(20, [2, 3]), (35, [11, 65]), (15, [2, 3])], [(502, [10, 70]), (503, [])], 64, 8)
+    ticket = Task(8, 100, 5, 21, [(30, [1, 2, 64]), (25, [3, 1])], [(501, [9])], 64, 8, 80, [2])
+    archive = Task(8, 90, 5, 22, [(20, [2, 3]), (35, [11, 65]), (15, [2, 3])], [(502, [10, 70]), (503, [])], 64, 8, 75, [1, 3])
     return [
         ("ticket", ticket),
         ("archive", archive),

@@ -119,6 +119,25 @@ prints $seven-60 'refused 7 at 1' price 2 2
 prints $seven-60 'refused 7 at 0' price 0
 prints $seven-60 'refused 7 at 0' price 65535
 
+# File Seven at Q 60 with armed blocks and Q2
+prints $seven-armed-none "$at_1_2" plan
+prints $seven-armed-1 "$at_1_2" plan
+prints $seven-armed-1-19 'refused 6 at 0' plan
+prints $seven-armed-1-19 'refused 8 at 0' price 1 2
+prints $seven-armed-3 "$at_1_2_3" plan
+prints $seven-armed-3 "$at_2_3" price 2 3
+prints $seven-armed-3-29 'refused 6 at 0' plan
+prints $seven-armed-3-50 "$at_1_2" plan
+prints $seven-armed-4 "$at_3" plan
+prints $seven-armed-4 'refused 8 at 1' price 2
+prints $seven-armed-4-50 "$at_1_2" plan
+prints $seven-armed-2-and-3 "$at_1_2_3" plan
+prints $seven-armed-all-39 "$at_1_2_3" plan
+prints $seven-armed-all-39 'refused 8 at 0' price 2 3
+prints $seven-armed-all-40 "$at_2_3" price 2 3
+prints $seven-armed-all-40 "$at_1_2_3" plan
+prints $seven-armed-all-70 'refused 8 at 1' price 1
+
 # the last read of line 0 is its only reload
 prints crates/planner_cases/data/last-read 'task 7 blocks 3 points 2 lines 1 cost 10
 region 0 1 length 20
@@ -270,7 +289,7 @@ usage generate 1 1 0 1 0 0 0
 usage generate 4294967296 1 0 1 0 0
 usage generate 1 1 0 1 0 x
 
-# two files joined: the smaller Q, the first's id, the basic blocks of both, then the preempters of both
+# two files joined: the smaller Q and Q2, the first's id, the basic blocks of both, then the preempters of both
 writes $joined/ticket-archive join $joined/ticket $joined/archive
 prints "$made" 'task 21 blocks 5 points 1 lines 1 cost 5
 region 0 2 length 55

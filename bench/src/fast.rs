@@ -74,6 +74,7 @@ pub struct Task<'a> {
     pub n: usize,
     pub lines: Lines,
     limit: u64,
+    second: u64,
     reload: u64,
     id: u32,
     blocks: &'a [u8],
@@ -91,6 +92,14 @@ impl Task<'_> {
 
     fn time(&self, k: usize) -> u64 {
         get32(self.blocks, (k - 1) * BLOCK + 4) as u64
+    }
+
+    /// The limit that counts for block k: the smaller one where the sampler is armed.
+    fn limit_in(&self, k: usize) -> u64 {
+        match self.blocks[(k - 1) * BLOCK + 1] {
+            0 => self.limit,
+            _ => self.limit.min(self.second),
+        }
     }
 
     /// The length of a region that reloads so many lines.
@@ -133,7 +142,7 @@ pub fn open(file: &[u8]) -> Result<Task<'_>, Refusal> {
         || s == 0
         || s > 512
         || scratch.0 as u64 + scratch.1 as u64 > 1 << 32
-        || !all_zero(&header[28..508])
+        || !all_zero(&header[32..508])
     {
         return Err(refusal(3, 0));
     }
@@ -144,7 +153,7 @@ pub fn open(file: &[u8]) -> Result<Task<'_>, Refusal> {
         let r = get16(block, 2);
         let kind = if i < n { 2 } else { 3 };
         if block[0] != kind
-            || block[1] != 0
+            || block[1] > (i < n) as u8
             || r > 124
             || get32(block, 504) as usize != i + 1
             || !all_zero(&block[8 + 4 * r..504])
@@ -157,6 +166,7 @@ pub fn open(file: &[u8]) -> Result<Task<'_>, Refusal> {
         n,
         lines: Lines::new(s, scratch),
         limit: get32(header, 8) as u64,
+        second: get32(header, 28) as u64,
         reload: get32(header, 12) as u64,
         id: get32(header, 16),
         blocks,
@@ -207,8 +217,10 @@ fn choose<M: Method>(task: &Task, method: &M) -> Option<(Ends, u64)> {
     const NONE: u64 = 1 << 62;
     let n = task.n;
     let mut times = [0; MOST_BASIC + 1];
+    let mut limits = [0; MOST_BASIC + 1];
     for k in 1..=n {
         times[k] = task.time(k);
+        limits[k] = task.limit_in(k);
     }
     let mut rests = [Rest {
         cost: 0,
@@ -217,6 +229,7 @@ fn choose<M: Method>(task: &Task, method: &M) -> Option<(Ends, u64)> {
     }; MOST_BASIC + 1];
     for a in (0..n).rev() {
         let mut sum = 0;
+        let mut limit = task.limit;
         let mut best = Rest {
             cost: NONE,
             lines: 0,
@@ -225,7 +238,8 @@ fn choose<M: Method>(task: &Task, method: &M) -> Option<(Ends, u64)> {
         method.grow(a, n, |b, lines| {
             let reloads = task.reload * lines;
             sum += times[b];
-            if sum + reloads > task.limit {
+            limit = limit.min(limits[b]);
+            if sum + reloads > limit {
                 return false;
             }
             let rest = &rests[b];
@@ -256,7 +270,8 @@ fn price_list<M: Method>(task: &Task, ends: &Ends) -> Result<u64, Refusal> {
     let mut a = 0;
     for (i, (&b, lines)) in ends.all().iter().zip(sizes).enumerate() {
         let b = b as usize;
-        if task.length(a, b, lines) > task.limit {
+        let limit = (a + 1..=b).map(|k| task.limit_in(k)).min();
+        if Some(task.length(a, b, lines)) > limit {
             return Err(refusal(8, i));
         }
         whole += lines;

@@ -8,8 +8,8 @@ fn put(block: &mut [u8], at: usize, bytes: &[u8]) {
     block[at..at + bytes.len()].copy_from_slice(bytes);
 }
 
-fn limit(file: &[u8]) -> u32 {
-    u32::from_le_bytes([file[8], file[9], file[10], file[11]])
+fn number(file: &[u8], at: usize) -> u32 {
+    u32::from_le_bytes([file[at], file[at + 1], file[at + 2], file[at + 3]])
 }
 
 /// The basic blocks and the preempters of a file that was opened.
@@ -45,7 +45,10 @@ pub fn join(first: &[u8], second: &[u8], out: &mut [u8]) -> Returned {
     }
     put(out, 2, &(n as u16).to_le_bytes());
     put(out, 4, &(m as u16).to_le_bytes());
-    put(out, 8, &limit(first).min(limit(second)).to_le_bytes());
+    for at in [8, 28] {
+        let smaller = number(first, at).min(number(second, at));
+        put(out, at, &smaller.to_le_bytes());
+    }
     for (i, block) in out.chunks_exact_mut(BLOCK).enumerate() {
         put(block, 504, &(i as u32).to_le_bytes());
     }

@@ -2,7 +2,7 @@
 
 pub struct Counts(Vec<(String, u64)>);
 
-const SHAPES: [&str; 86] = [
+const SHAPES: [&str; 98] = [
     "2 above block 0",
     "5 in a basic block",
     "5 in an interrupter",
@@ -58,6 +58,15 @@ const SHAPES: [&str; 86] = [
     "search past a range",
     "3 by the range alone",
     "range, price > 0",
+    "no block armed",
+    "one block armed",
+    "some blocks armed",
+    "all blocks armed",
+    "armed, Q2 below Q",
+    "armed, Q2 at Q",
+    "armed, Q2 above Q",
+    "6 by Q2 alone",
+    "8 by Q2 alone",
     "file of 97 blocks",
     "end-aligned file",
     "start-aligned file",
@@ -68,6 +77,9 @@ const SHAPES: [&str; 86] = [
     "others, same lines",
     "Q of the first",
     "Q of the second",
+    "Q2 of the first",
+    "Q2 of the second",
+    "armed file joined",
     "joined N 64",
     "joined M 32",
     "97 blocks joined",

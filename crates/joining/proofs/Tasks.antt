@@ -108,4 +108,5 @@ joined-assoc t u v =
     let b = u .header in
     let c = v .header in
     let limits : min (min (a .limit) (b .limit)) (c .limit) ≡ min (a .limit) (min (b .limit) (c .limit)) = omega arith in
-    rw (append-assoc (t .blocks) (u .blocks) (v .blocks), append-assoc (t .preempters) (u .preempters) (v .preempters), limits)
+    let seconds : min (min (a .«second_limit») (b .«second_limit»)) (c .«second_limit») ≡ min (a .«second_limit») (min (b .«second_limit») (c .«second_limit»)) = omega arith in
+    rw (append-assoc (t .blocks) (u .blocks) (v .blocks), append-assoc (t .preempters) (u .preempters) (v .preempters), limits, seconds)

@@ -8,9 +8,17 @@ use lib.ListN.{length}
 use Rattle.model.specs.Task.{Task, blockCount}
 use Rattle.model.specs.declared.Header.{Header}
 
--- the smaller limit and the first's id; S, R and the scratch range are those of both
+-- the smaller limit, the smaller second limit (document 02, item 9) and the first's id; S, R and the scratch range are those of both
 unfoldable pub joinedHeader : Header → Header → Header
-joinedHeader a b = record { «line_count» = a .«line_count»; limit = min (a .limit) (b .limit); reload = a .reload; id = a .id; scratch = a .scratch }
+joinedHeader a b =
+    record {
+      «line_count» = a .«line_count»;
+      limit = min (a .limit) (b .limit);
+      reload = a .reload;
+      id = a .id;
+      scratch = a .scratch;
+      «second_limit» = min (a .«second_limit») (b .«second_limit»);
+    }
 
 -- basic blocks of the first, then of the second, and preempters (the document's interrupters) likewise
 unfoldable pub joined : Task → Task → Task

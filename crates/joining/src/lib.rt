@@ -68,7 +68,7 @@ fn check_totals(blocks: usize, preempters: usize) -> Verdict
     Verdict::Accepted
 }
 
-// The header of the joined task: the first's, with the smaller limit.
+// The header of the joined task: the first's, with the smaller limits.
 fn joined_header(first: &[u8], second: &[u8]) -> Header
     requires { ⌜ IsAccepted (now first) × IsAccepted (now second) ⌝ }
     ensures { λ r. ⌜ r ≡ joined (taskOf (now (first .entry))) (taskOf (now (second .entry))) .header ⌝ }
@@ -76,6 +76,7 @@ fn joined_header(first: &[u8], second: &[u8]) -> Header
     let mut header = taskfile::header(first);
     let other = taskfile::header(second);
     header.limit = smaller(header.limit, other.limit);
+    header.second_limit = smaller(header.second_limit, other.second_limit);
     header
 }
 

@@ -14,7 +14,7 @@ use Rattle.model.specs.Sets.{Lines, listed, countBelow}
 use Rattle.model.specs.Task.{Task, blockCount}
 use Rattle.model.specs.Lines.{bypasses, lineOf, onLine, lastRead, firstRead, anyRead, readsOf, preempterReads, blockAt, stateAfter, nextRead, lookedAt, readsLookedAt, asNext, useful, accessed, evicted}
 use Rattle.model.specs.Lists.{steps, regions, every, total, lowest, wellFormed, before, among, sameList, risingLists, allLists}
-use Rattle.model.specs.Regions.{unionAfter, timeAfter, loaded, regionLines, regionLength, regionFits, regionCost, lines, cost, fits, FirstBest, NoPlacementFits}
+use Rattle.model.specs.Regions.{unionAfter, timeAfter, loaded, regionLines, regionLength, armedAfter, regionFits, regionCost, lines, cost, fits, FirstBest, NoPlacementFits}
 use Rattle.model.specs.Replay.{miss, fetch, misses, after, emptied, atEdge, walk, missesWith, missesAlone}
 use Rattle.model.specs.Answers.{accepted, pricing, number, place}
 use Rattle.model.specs.Cases.{Case, usefulAre, nextIs, evictedAre, loadedAre, lengthIs, bestAre, firstIs, fittingAre, noneFits, priced, refused, lineIs, onNoLine, replayed, RefusedBy, CaseHolds, cases}
@@ -257,7 +257,7 @@ sound (replayed t ps a b) h =
     (eqb-true (missesAlone t) a (both .0), eqb-true (missesWith t ps) b (both .1))
 
 all-pass : everyCase cases ≡ true
-unfolding everyCase test agreeBelow everyList onAll exactly some ahead sameNext sameMapping refusedBy listed useful stateAfter nextRead lastRead firstRead lookedAt readsLookedAt readsOf bypasses lineOf onLine accessed anyRead blockAt evicted preempterReads loaded unionAfter regionLines countBelow regionLength timeAfter regionFits regionCost every total lowest regions steps before among sameList risingLists miss fetch misses after emptied atEdge walk missesWith missesAlone
+unfolding everyCase test agreeBelow everyList onAll exactly some ahead sameNext sameMapping refusedBy listed useful stateAfter nextRead lastRead firstRead lookedAt readsLookedAt readsOf bypasses lineOf onLine accessed anyRead blockAt evicted preempterReads loaded unionAfter regionLines countBelow regionLength timeAfter armedAfter regionFits regionCost every total lowest regions steps before among sameList risingLists miss fetch misses after emptied atEdge walk missesWith missesAlone
 all-pass = refl
 
 held : (cs : List Case) → everyCase cs ≡ true → (c : Case) → List·Memᴰ c cs → CaseHolds c

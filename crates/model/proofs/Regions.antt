@@ -1,21 +1,23 @@
 -- Laws of regions and what lists of them cost.
 -- Assumes nothing.
-use Prim.Native.Nat.{ℕ, zero, suc, _+_, _-_, _*_, _≤_}
+use Prim.Native.Nat.{ℕ, zero, suc, _+_, _-_, _*_, _≤_, _<_, min}
 use mathlib.Core.Path.{_≡_, refl, sym, ap, _∙_}
-use mathlib.Core.Bool.{Bool, true, false, not, _&&_, and-eq-true-iff, and-false, false≢true}
+use mathlib.Core.Bool.{Bool, true, false, not, _&&_, _||_, and-eq-true-iff, and-true, and-false, or-true, false≢true}
 use mathlib.Core.List.{List, [], _∷_}
-use native.Mathlib.Nat.{le-refl, lt-of-lt-of-le, add-zero, add-suc, mul-zero, mul-add, mul-le-mul}
+use native.Mathlib.Nat.{le-refl, le-trans, add-zero, add-suc, mul-zero, mul-add, mul-le-mul}
+use native.Mathlib.Decide.{decLe}
 use native.Mathlib.Omega.{arith}
-use borrow.Author.Tests.{leb-false, lt-leb}
+use borrow.Author.Tests.{leb-true, le-leb, lt-leb}
+use lib.Dec.{leb}
 use lib.ListN.{length}
 use Rattle.model.specs.Sets.{Lines, bit}
-use Rattle.model.specs.Task.{Task, blockCount}
+use Rattle.model.specs.Task.{Task, blockCount, secondLimit}
 use Rattle.model.specs.Lists.{Region, steps, regions, total, rightPoint, wellFormed, wrongPoint}
-use Rattle.model.specs.Lines.{useful, evicted}
-use Rattle.model.specs.Regions.{unionAfter, timeAfter, loaded, regionLines, newLines, regionLength, regionFits, regionCost}
+use Rattle.model.specs.Lines.{useful, evicted, blockAt}
+use Rattle.model.specs.Regions.{unionAfter, timeAfter, loaded, regionLines, newLines, regionLength, armedAfter, regionFits, regionCost}
 use Rattle.model.specs.Regions.{lines, fits, regionAbove}
 use Rattle.model.specs.Answers.{refusedAt, pricing}
-use Rattle.model.specs.Laws.{CostOfLines}
+use Rattle.model.specs.Laws.{NoneArmed, OneArmed, AllArmed, CostOfLines}
 use Rattle.model.specs.declared.Place.{Place}
 use Rattle.model.specs.declared.Place.the-variants.{Nowhere, At}
 use Rattle.model.specs.declared.Refusal.the-variants.{Argument, AboveLimit}
@@ -72,6 +74,24 @@ unfolding unionAfter
 union-grows s a n zero c h = rw add-zero h
 union-grows s a n (suc k) c h = rw (add-suc, union-grows s a n k c h)
 
+armed-grows : (t : Task) (a n k : ℕ) → armedAfter t a n ≡ true → armedAfter t a (n + k) ≡ true
+unfolding armedAfter
+armed-grows t a n zero h = rw add-zero h
+armed-grows t a n (suc k) h = rw (add-suc, armed-grows t a n k h)
+
+-- a length that is within the limits leaves a smaller one within them, and no more of them count
+within-shrinks : (armed more : Bool) (l m q r : ℕ) → l ≤ m → (armed ≡ true → more ≡ true)
+    → (leb m q && (not more || leb m r)) ≡ true
+    → (leb l q && (not armed || leb l r)) ≡ true
+within-shrinks armed more l m q r h g e =
+    let both = and-eq-true-iff (leb m q) (not more || leb m r) .0 e in
+    rw (le-leb l q (le-trans h (leb-true m q (both .0)))) (second armed more g (both .1))
+  where
+    second : (armed more : Bool) → (armed ≡ true → more ≡ true) → (not more || leb m r) ≡ true → (not armed || leb l r) ≡ true
+    second false more g k = refl
+    second true false g k = absurd (false≢true (g refl))
+    second true true g k = le-leb l r (le-trans h (leb-true m r k))
+
 module _ (t : Task) (a b c : ℕ) (h : b ≤ c) where
   more : c - a ≡ b - a + (c - a - (b - a))
   more = omega arith
@@ -91,7 +111,50 @@ module _ (t : Task) (a b c : ℕ) (h : b ≤ c) where
   -- where a region does not fit, no longer one from the same edge does
   pub longer-above : regionFits t a b ≡ false → regionFits t a c ≡ false
   unfolding regionFits
-  longer-above e = lt-leb _ _ (lt-of-lt-of-le (leb-false _ _ e) length-grows)
+  longer-above e = go (regionFits t a c) refl
+    where
+      go : (x : Bool) → regionFits t a c ≡ x → regionFits t a c ≡ false
+      go false k = k
+      go true k =
+          absurd
+          (false≢true
+          (sym e ∙
+          within-shrinks (armedAfter t a (b - a)) (armedAfter t a (c - a)) (regionLength t a b) (regionLength t a c) (t .header .limit) (secondLimit t) length-grows
+          (λ x. rw more (armed-grows t a (b - a) (c - a - (b - a)) x)) k))
+
+-- the fit where the sampler is armed nowhere, and where it is somewhere
+
+unarmed : (t : Task) (a n : ℕ) → ((i : ℕ) → a ≤ i → i < a + n → blockAt t i .armed ≡ false) → armedAfter t a n ≡ false
+unfolding armedAfter
+unarmed t a zero h = refl
+unarmed t a (suc n) h = rw (unarmed t a n (λ i l u. h i l (omega arith)), h (a + n) (omega arith) (omega arith)) refl
+
+pub none-armed : NoneArmed
+unfolding regionFits
+none-armed t a b h = rw (unarmed t a (b - a) (λ i l u. h i l (omega arith)), and-true)
+
+armed-in : (t : Task) (a n i : ℕ) → a ≤ i → i < a + n → blockAt t i .armed ≡ true → armedAfter t a n ≡ true
+unfolding armedAfter
+armed-in t a n i l u e =
+    let here : a + (i - a) ≡ i = omega arith in
+    let upto : suc (i - a) + (n - suc (i - a)) ≡ n = omega arith in
+    rw upto at (armed-grows t a (suc (i - a)) (n - suc (i - a)) (rw (here, e) (or-true (armedAfter t a (i - a)))))
+
+pub within-both : (l q r : ℕ) → (leb l q && leb l r) ≡ leb l (min q r)
+within-both l q r = go (decLe l q) (decLe l r)
+  where
+    go : Dec (l ≤ q) → Dec (l ≤ r) → (leb l q && leb l r) ≡ leb l (min q r)
+    go (yes h) (yes k) = rw (le-leb l q h, le-leb l r k, le-leb l (min q r) (omega arith))
+    go (yes h) (no k) = rw (le-leb l q h, lt-leb l r (omega arith), lt-leb l (min q r) (omega arith))
+    go (no h) k = rw (lt-leb l q (omega arith), lt-leb l (min q r) (omega arith))
+
+pub one-armed : OneArmed
+unfolding regionFits
+one-armed t a b i l u e =
+    rw (armed-in t a (b - a) i l (omega arith) e) (within-both (regionLength t a b) (t .header .limit) (secondLimit t))
+
+pub all-armed : AllArmed
+all-armed t h a b l u = one-armed t a b a (omega arith) l (h a (omega arith))
 
 -- a region's lines, block after block
 

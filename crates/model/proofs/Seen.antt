@@ -3,10 +3,11 @@
 -- Assumes nothing.
 use Prim.Native.Nat.{ℕ, zero, suc, _+_}
 use mathlib.Core.Path.{_≡_, refl, sym, ap, subst, _∙_, fun-ext}
+use mathlib.Core.Bool.{Bool, _||_}
 use mathlib.Core.List.{List, [], _∷_}
 use Rattle.model.specs.Task.{Block, Preempter, Task, blockCount, withPreempters}
 use Rattle.model.specs.Lines.{bypasses, lineOf, onLine, blockAt, stateAfter, nextRead, readsLookedAt, useful, accessed, evicted}
-use Rattle.model.specs.Regions.{timeAfter, loaded, regionLines, regionLength, regionFits, regionCost}
+use Rattle.model.specs.Regions.{timeAfter, armedAfter, loaded, regionLines, regionLength, regionFits, regionCost}
 use Rattle.model.specs.Replay.{Cache, emptyCache, miss, fetch, misses, after, atEdge, walk, missesWith, missesAlone}
 
 -- all that answers are made of is the same of two tasks
@@ -52,6 +53,11 @@ module _ (t : Task) (ps : List Preempter) (same : (c : ℕ) → evicted t c ≡ 
   time-same a zero = refl
   time-same a (suc n) = ap (λ (x : ℕ). x + blockAt t (a + n) .time) (time-same a n)
 
+  armed-same : (a n : ℕ) → armedAfter t a n ≡ armedAfter (withPreempters t ps) a n
+  unfolding armedAfter blockAt
+  armed-same a zero = refl
+  armed-same a (suc n) = ap (λ (x : Bool). x || blockAt t (a + n) .armed) (armed-same a n)
+
   -- regions see the lines that are evicted
 
   loaded-same : loaded t ≡ loaded (withPreempters t ps)
@@ -68,7 +74,7 @@ module _ (t : Task) (ps : List Preempter) (same : (c : ℕ) → evicted t c ≡ 
 
   fits-same : regionFits t ≡ regionFits (withPreempters t ps)
   unfolding regionFits
-  fits-same = fun-ext (λ a. fun-ext (λ b. rw length-same))
+  fits-same = fun-ext (λ a. fun-ext (λ b. rw (length-same, armed-same)))
 
   cost-same : regionCost t ≡ regionCost (withPreempters t ps)
   unfolding regionCost

@@ -94,6 +94,6 @@ whose Accepted Accepted = First
 whose Accepted (Refused r) = Second
 whose (Refused r) later = First
 
--- pricing a list: 7 at the lowest wrong point, then 8 at the lowest region above the limit
+-- pricing a list: 7 at the lowest wrong point, then 8 at the lowest region that does not fit
 abbrev pub pricing : Task → List ℕ → Verdict
 pricing t ps = refusedAt (wrongPoint (blockCount t) ps) Argument (refusedAt (regionAbove t ps) AboveLimit Accepted)

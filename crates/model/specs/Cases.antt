@@ -1,5 +1,5 @@
--- Document 01's cases marked P as document 02 has changed them, two more of its rules on small tasks, document 02's first five items, and
--- document 004's appendix A. A case is a claim on a task; a claim about lists is one about every list. Assumes nothing.
+-- Document 01's cases marked P as document 02 has changed them, two more of its rules on small tasks, document 02's first five items and
+-- its item 9, and document 004's appendix A. A case is a claim on a task; a claim about lists is one about every list. Assumes nothing.
 use Prim.Native.Nat.{ℕ, _<_}
 use mathlib.Core.Path.{_≡_}
 use mathlib.Core.Bool.{true, false, _&&_}
@@ -63,23 +63,34 @@ CaseHolds (onNoLine t m) = (d : ℕ) → onLine t d m ≡ false
 CaseHolds (replayed t ps a b) = (missesAlone t ≡ a) × (missesWith t ps ≡ b)
 
 abbrev pub block : ℕ → List ℕ → Block
-block time reads = record { time = time; reads = reads }
+block time reads = record { time = time; armed = false; reads = reads }
 
 abbrev pub preempter : List ℕ → Preempter
 preempter reads = record { id = 0; reads = reads }
 
--- a header with S lines, the limit Q, R ticks for a reload, and the numbers below count in its scratch range; its id is File Seven's
-abbrev pub header : ℕ → ℕ → ℕ → ℕ → Header
-header s q r count = record { «line_count» = s; limit = q; reload = r; id = 7; scratch = record { first = 0; count = count } }
+-- a header with S lines, the limit Q, R ticks for a reload, the numbers below count in its scratch range, and the limit Q2; its id is File Seven's
+abbrev pub header : ℕ → ℕ → ℕ → ℕ → ℕ → Header
+header s q r count q2 =
+    record { «line_count» = s; limit = q; reload = r; id = 7; scratch = record { first = 0; count = count }; «second_limit» = q2 }
+
+-- the tasks of File Seven's blocks, with this header and the sampler armed in these blocks
+abbrev pub seven : Header → List ℕ → Task
+seven h armed =
+    record {
+      header = h;
+      blocks =
+          record { time = 20; armed = listed armed 1; reads = 0 ∷ 1 ∷ [] } ∷ record { time = 20; armed = listed armed 2; reads = 2 ∷ [] } ∷
+          record { time = 20; armed = listed armed 3; reads = 0 ∷ [] } ∷ record { time = 20; armed = listed armed 4; reads = 5 ∷ 0 ∷ [] } ∷ [];
+      preempters = preempter (4 ∷ 1 ∷ []) ∷ [];
+    }
 
 -- File Seven, with S lines, the limit Q, and the numbers below count in its scratch range
 abbrev pub scratchSeven : ℕ → ℕ → ℕ → Task
-scratchSeven s q count =
-    record {
-      header = header s q 10 count;
-      blocks = block 20 (0 ∷ 1 ∷ []) ∷ block 20 (2 ∷ []) ∷ block 20 (0 ∷ []) ∷ block 20 (5 ∷ 0 ∷ []) ∷ [];
-      preempters = preempter (4 ∷ 1 ∷ []) ∷ [];
-    }
+scratchSeven s q count = seven (header s q 10 count 0) []
+
+-- File Seven at Q 60, with the limit Q2 and the sampler armed in these blocks
+abbrev pub armedSeven : ℕ → List ℕ → Task
+armedSeven q2 armed = seven (header 4 60 10 0 q2) armed
 
 -- File Seven as document 01 has it
 abbrev pub fileSeven : ℕ → ℕ → Task
@@ -87,13 +98,13 @@ fileSeven s q = scratchSeven s q 0
 
 -- one basic block of 60 ticks
 abbrev pub oneBlock : ℕ → Task
-oneBlock q = record { header = header 4 q 10 0; blocks = block 60 [] ∷ []; preempters = [] }
+oneBlock q = record { header = header 4 q 10 0 0; blocks = block 60 [] ∷ []; preempters = [] }
 
 -- a number that is read for the last time after the only point, on a line that the preempter evicts
 abbrev pub readTwice : Task
 readTwice =
     record {
-      header = header 4 60 10 0;
+      header = header 4 60 10 0 0;
       blocks = block 20 (0 ∷ []) ∷ block 20 (0 ∷ []) ∷ [];
       preempters = preempter (4 ∷ []) ∷ [];
     }
@@ -102,7 +113,7 @@ readTwice =
 abbrev pub sameRead : Task
 sameRead =
     record {
-      header = header 4 60 10 0;
+      header = header 4 60 10 0 0;
       blocks = block 20 (0 ∷ []) ∷ block 20 (0 ∷ []) ∷ block 20 (0 ∷ []) ∷ block 20 (0 ∷ []) ∷ [];
       preempters = preempter (4 ∷ []) ∷ [];
     }
@@ -111,7 +122,7 @@ sameRead =
 abbrev pub appendixA : Task
 appendixA =
     record {
-      header = header 16 0 390 0;
+      header = header 16 0 390 0 0;
       blocks =
           block 0 (1 ∷ 2 ∷ []) ∷ block 0 (3 ∷ 4 ∷ 8 ∷ []) ∷ block 0 (4 ∷ 5 ∷ 6 ∷ 8 ∷ []) ∷ block 0 (1 ∷ 2 ∷ 7 ∷ 8 ∷ []) ∷
           block 0 (1 ∷ 2 ∷ 7 ∷ 8 ∷ []) ∷ block 0 (1 ∷ 2 ∷ 7 ∷ 8 ∷ []) ∷ [];
@@ -169,6 +180,22 @@ cases =
     replayed (scratchSeven 4 60 1) (1 ∷ 2 ∷ 3 ∷ []) 3 3 ∷
     -- with the range 0 to 4 both numbers of the preempter bypass the cache, and H is empty
     evictedAre (scratchSeven 4 60 5) [] ∷ lineIs (scratchSeven 4 60 5) 5 1 ∷
+    -- document 02, item 9: nothing armed, so Q2 0 is as nothing; block 1 armed, which is 20 long by itself
+    firstIs (armedSeven 0 []) (1 ∷ 2 ∷ []) ∷ priced (armedSeven 0 []) (1 ∷ 2 ∷ []) 1 10 ∷
+    firstIs (armedSeven 20 (1 ∷ [])) (1 ∷ 2 ∷ []) ∷ priced (armedSeven 20 (1 ∷ [])) (1 ∷ 2 ∷ []) 1 10 ∷ noneFits (armedSeven 19 (1 ∷ [])) 6 0 ∷
+    -- block 3 armed: by itself it is 30 long, with block 4 it is 50
+    bestAre (armedSeven 30 (3 ∷ [])) 20 ((1 ∷ 2 ∷ 3 ∷ []) ∷ (2 ∷ 3 ∷ []) ∷ []) ∷ firstIs (armedSeven 30 (3 ∷ [])) (1 ∷ 2 ∷ 3 ∷ []) ∷
+    noneFits (armedSeven 29 (3 ∷ [])) 6 0 ∷ firstIs (armedSeven 50 (3 ∷ [])) (1 ∷ 2 ∷ []) ∷ priced (armedSeven 50 (3 ∷ [])) (1 ∷ 2 ∷ []) 1 10 ∷
+    -- block 4 armed: point 3 alone, with regions of 60 and 30
+    bestAre (armedSeven 30 (4 ∷ [])) 10 ((3 ∷ []) ∷ []) ∷ lengthIs (armedSeven 30 (4 ∷ [])) 0 3 60 ∷ lengthIs (armedSeven 30 (4 ∷ [])) 3 4 30 ∷
+    firstIs (armedSeven 50 (4 ∷ [])) (1 ∷ 2 ∷ []) ∷ priced (armedSeven 50 (4 ∷ [])) (1 ∷ 2 ∷ []) 1 10 ∷
+    -- its list 2: refusal 8 at region 1, which is within Q
+    refused (armedSeven 30 (4 ∷ [])) (2 ∷ []) 8 1 ∷ lengthIs (armedSeven 30 (4 ∷ [])) 2 4 50 ∷
+    -- blocks 2 and 3 armed
+    bestAre (armedSeven 30 (2 ∷ 3 ∷ [])) 20 ((1 ∷ 2 ∷ 3 ∷ []) ∷ []) ∷
+    -- all armed: the smaller limit for all regions
+    fittingAre (armedSeven 39 (1 ∷ 2 ∷ 3 ∷ 4 ∷ [])) ((1 ∷ 2 ∷ 3 ∷ []) ∷ []) ∷ priced (armedSeven 39 (1 ∷ 2 ∷ 3 ∷ 4 ∷ [])) (1 ∷ 2 ∷ 3 ∷ []) 2 20 ∷
+    bestAre (armedSeven 40 (1 ∷ 2 ∷ 3 ∷ 4 ∷ [])) 20 ((1 ∷ 2 ∷ 3 ∷ []) ∷ (2 ∷ 3 ∷ []) ∷ []) ∷ firstIs (armedSeven 40 (1 ∷ 2 ∷ 3 ∷ 4 ∷ [])) (1 ∷ 2 ∷ 3 ∷ []) ∷
     -- 004, figure 9: the useful lines of task 1
     usefulAre appendixA 1 (1 ∷ 2 ∷ []) ∷ usefulAre appendixA 2 (1 ∷ 2 ∷ 4 ∷ 8 ∷ []) ∷ usefulAre appendixA 3 (1 ∷ 2 ∷ 8 ∷ []) ∷
     usefulAre appendixA 4 (1 ∷ 2 ∷ 7 ∷ 8 ∷ []) ∷ usefulAre appendixA 5 (1 ∷ 2 ∷ 7 ∷ 8 ∷ []) ∷

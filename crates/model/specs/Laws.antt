@@ -1,18 +1,18 @@
 -- What documents 01 and 02 say of the definitions and no contract states. Each is proved in proofs/ under its name in small letters.
 -- Assumes nothing.
-use Prim.Native.Nat.{ℕ, suc, _+_, _*_, _%_, _≤_, _<_}
+use Prim.Native.Nat.{ℕ, suc, _+_, _*_, _%_, _≤_, _<_, min}
 use mathlib.Core.Path.{_≡_}
 use mathlib.Core.Bool.{Bool, true, false, not, cond}
 use mathlib.Core.Logic.{_⊎_}
 use mathlib.Core.List.{List, [], _∷_, List·Memᴰ}
 use lib.Count.{ones}
-use lib.Dec.{eqb}
+use lib.Dec.{eqb, leb}
 use lib.ListN.{take, drop}
 use Rattle.model.specs.Sets.{Lines, size, words, inWords}
-use Rattle.model.specs.Task.{Task, blockCount, lineCount}
+use Rattle.model.specs.Task.{Task, blockCount, lineCount, secondLimit}
 use Rattle.model.specs.Lines.{lineOf, lastRead, firstRead, lookedAt, anyRead, sameBlock, readsOf, preempterReads, blockAt, stateAfter, nextRead, readsLookedAt, useful, accessed, evicted}
 use Rattle.model.specs.Lists.{wellFormed, before, FirstOfLeast, among, allLists}
-use Rattle.model.specs.Regions.{lines, cost}
+use Rattle.model.specs.Regions.{regionLength, regionFits, lines, cost}
 use Rattle.model.specs.Replay.{Cache, miss, fetch, missesAlone, missesWith}
 use Rattle.model.specs.Planning.{Planned}
 use Rattle.model.specs.Cases.{Case, CaseHolds, cases}
@@ -65,6 +65,24 @@ pub record SeesRemainders (t : Task) : Type 0 where
 -- with no scratch range the definitions are what they were without one (document 02, item 5)
 abbrev pub NoScratch : Type 0
 NoScratch = (t : Task) → t .header .scratch .count ≡ 0 → SeesRemainders t
+
+-- where the sampler is armed in no block of a region, its fit is what it was, whatever Q2 (document 02, item 9)
+abbrev pub NoneArmed : Type 0
+NoneArmed =
+    (t : Task) (a b : ℕ) → ((i : ℕ) → a ≤ i → i < b → blockAt t i .armed ≡ false)
+    → regionFits t a b ≡ leb (regionLength t a b) (t .header .limit)
+
+-- where it is armed in one, the fit is that of the smaller of the two limits
+abbrev pub OneArmed : Type 0
+OneArmed =
+    (t : Task) (a b i : ℕ) → a ≤ i → i < b → blockAt t i .armed ≡ true
+    → regionFits t a b ≡ leb (regionLength t a b) (min (t .header .limit) (secondLimit t))
+
+-- so of every region where it is armed in all blocks
+abbrev pub AllArmed : Type 0
+AllArmed =
+    (t : Task) → ((i : ℕ) → i < blockCount t → blockAt t i .armed ≡ true) → (a b : ℕ) → a < b → b ≤ blockCount t
+    → regionFits t a b ≡ leb (regionLength t a b) (min (t .header .limit) (secondLimit t))
 
 -- a list's price is R times its lines
 abbrev pub CostOfLines : Type 0

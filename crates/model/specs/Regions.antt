@@ -4,7 +4,7 @@ use mathlib.Core.Bool.{Bool, false, not, _&&_, _||_}
 use mathlib.Core.List.{List}
 use lib.Dec.{leb}
 use Rattle.model.specs.Sets.{Lines, size}
-use Rattle.model.specs.Task.{Task, blockCount}
+use Rattle.model.specs.Task.{Task, blockCount, secondLimit}
 use Rattle.model.specs.Lines.{useful, accessed, evicted, blockAt}
 use Rattle.model.specs.Lists.{regions, total, lowest, listFits, listCost, LeastCost, FirstOfLeast, NoneFits}
 use Rattle.model.specs.declared.Place.{Place}
@@ -36,9 +36,16 @@ newLines t a b = size (λ c. loaded t a b c && not (loaded t a (b - 1) c))
 unfoldable pub regionLength : Task → ℕ → ℕ → ℕ
 regionLength t a b = timeAfter t a (b - a) + t .header .reload * regionLines t a b
 
--- a region is within the limit
+-- the sampler is armed in one of the n basic blocks after edge a
+unfoldable pub armedAfter : Task → ℕ → ℕ → Bool
+armedAfter t a zero = false
+armedAfter t a (suc n) = armedAfter t a n || blockAt t (a + n) .armed
+
+-- a region is within Q, and within Q2 too if the sampler is armed in one of its blocks (document 02, item 9)
 unfoldable pub regionFits : Task → ℕ → ℕ → Bool
-regionFits t a b = leb (regionLength t a b) (t .header .limit)
+regionFits t a b =
+    let within = leb (regionLength t a b) in
+    within (t .header .limit) && (not (armedAfter t a (b - a)) || within (secondLimit t))
 
 -- what a region costs (document 01's price): R for each loaded line
 unfoldable pub regionCost : Task → ℕ → ℕ → ℕ
@@ -55,7 +62,7 @@ cost t ps = listCost (regionCost t) (blockCount t) ps
 abbrev pub fits : Task → List ℕ → Bool
 fits t ps = listFits (regionFits t) (blockCount t) ps
 
--- the lowest region above the limit
+-- the lowest region that does not fit
 abbrev pub regionAbove : Task → List ℕ → Place
 regionAbove t ps = lowest (regionFits t) 0 (regions (blockCount t) 0 ps)
 

@@ -68,11 +68,12 @@ pub struct Scratch {
     pub count: u32,
 }
 
-// The numbers of a task file's header but N and M, each as wide as it stands there: S, Q, R, the task's id and the scratch range.
+// The numbers of a task file's header but N and M, each as wide as it stands there: S, Q, R, the task's id, the scratch range and Q2.
 pub struct Header {
     pub line_count: u16,
     pub limit: u32,
     pub reload: u32,
     pub id: u32,
     pub scratch: Scratch,
+    pub second_limit: u32,
 }

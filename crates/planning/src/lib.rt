@@ -88,7 +88,7 @@ fn plan_by_counts(file: &[u8], counts: &[u8; 4096]) -> FilePlan
     plan_along(file, &costs, &nexts, &lines)
 }
 
-// The choice at edge a, among the regions from it. The first that is above the limit ends the row: all longer ones are above it too.
+// The choice at edge a, among the regions from it. The first that does not fit ends the row: no longer one does.
 fn choose(
     file: &[u8],
     counts: &[u8; 4096],
@@ -101,11 +101,11 @@ fn choose(
 {
     let n = taskfile::block_count(file);
     let header = taskfile::header(file);
-    let mut region = CountedRegion::at(a);
+    let mut region = CountedRegion::at(header, a);
     let mut choice = Choice::untried(n);
     while region.to < n {
         region = region.longer(file, counts);
-        let weighed = regions::weigh(header, region.time, region.lines);
+        let weighed = regions::weigh(header, region.time, region.limit, region.lines);
         if !weighed.fits {
             return choice;
         }

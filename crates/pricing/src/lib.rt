@@ -22,7 +22,7 @@ pub struct Price {
     pub cost: u64,
 }
 
-// The price of a list of points: 7 at its lowest wrong point, then 8 at its lowest region above the limit.
+// The price of a list of points: 7 at its lowest wrong point, then 8 at its lowest region that does not fit.
 pub fn price_of(file: &[u8], points: &[u16]) -> Price
     requires { ⌜ IsAccepted (now file) ⌝ }
     ensures { λ r. ⌜ Prices (taskOf (now (file .entry))) (now (points .entry)) r ⌝ }

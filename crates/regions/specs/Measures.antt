@@ -1,8 +1,9 @@
 -- What the functions answer of a task t. Assumes nothing.
-use Prim.Native.Nat.{ℕ, _-_, _*_, _^_, _≤_, _<_}
+use Prim.Native.Nat.{ℕ, _-_, _*_, _^_, _≤_, _<_, min}
 use mathlib.Core.Path.{_≡_}
-use Rattle.model.specs.Task.{Task, blockCount}
-use Rattle.model.specs.Regions.{timeAfter, loaded, regionLines, regionLength, regionFits, regionCost}
+use mathlib.Core.Bool.{cond}
+use Rattle.model.specs.Task.{Task, blockCount, secondLimit}
+use Rattle.model.specs.Regions.{timeAfter, armedAfter, loaded, regionLines, regionLength, regionFits, regionCost}
 use Rattle.model.specs.declared.Header.{Header}
 use Rattle.lineset.specs.Members.{members}
 use Rattle.regions.specs.declared.MeasuredRegion.{MeasuredRegion}
@@ -19,26 +20,35 @@ pub record Measures (t : Task) (a b : ℕ) (r : MeasuredRegion) : Type 0 where
   pub few : r .lines ≤ 512
   pub small : r .cost < 2 ^ 48
 
--- a region's lines and the sum of its times; no basic blocks are a region that loads nothing
+-- the limit that counts for the n basic blocks after edge a: Q, and the smaller of Q and Q2 where the sampler is armed in one of them
+abbrev pub limitAfter : Task → ℕ → ℕ → ℕ
+limitAfter t a n = cond (armedAfter t a n) (min (t .header .limit) (secondLimit t)) (t .header .limit)
+
+-- the sum of the times of blocks a + 1 to b, and the limit that counts for them
+pub record RunBetween (t : Task) (a b time limit : ℕ) : Type 0 where
+  pub time-is : time ≡ timeAfter t a (b - a)
+  pub limit-is : limit ≡ limitAfter t a (b - a)
+  pub small : time ≤ (b - a) * 4294967295
+
+-- a region's lines, the sum of its times, and the limit that counts for it; no basic blocks are a region that loads nothing
 pub record Counted (t : Task) (r : CountedRegion) : Type 0 where
   pub rising : r .from ≤ r .to
   pub within : r .to ≤ blockCount t
   pub lines : r .lines ≡ regionLines t (r .from) (r .to)
   pub few : r .lines ≤ 512
-  pub time : r .time ≡ timeAfter t (r .from) (r .to - r .from)
-  pub small : r .time ≤ (r .to - r .from) * 4294967295
+  pub run : RunBetween t (r .from) (r .to) (r .time) (r .limit)
 
--- the header's numbers of a task t, and the times and the lines of its region from edge a to edge b
-pub record Described (t : Task) (a b : ℕ) (header : Header) (time lines : ℕ) : Type 0 where
+-- the header's numbers of a task t, and of its region from edge a to edge b the times, the limit that counts for it, and the lines
+pub record Described (t : Task) (a b : ℕ) (header : Header) (time limit lines : ℕ) : Type 0 where
   pub header-is : header ≡ t .header
-  pub time-is : time ≡ timeAfter t a (b - a)
+  pub run-is : RunBetween t a b time limit
   pub lines-are : lines ≡ regionLines t a b
 
 -- the length, the cost and the fit of whatever region these numbers describe
-pub record Weighs (header : Header) (time lines : ℕ) (r : Weighed) : Type 0 where
-  pub length : (t : Task) (a b : ℕ) → Described t a b header time lines → r .length ≡ regionLength t a b
-  pub cost : (t : Task) (a b : ℕ) → Described t a b header time lines → r .cost ≡ regionCost t a b
-  pub fits : (t : Task) (a b : ℕ) → Described t a b header time lines → r .fits ≡ regionFits t a b
+pub record Weighs (header : Header) (time limit lines : ℕ) (r : Weighed) : Type 0 where
+  pub length : (t : Task) (a b : ℕ) → Described t a b header time limit lines → r .length ≡ regionLength t a b
+  pub cost : (t : Task) (a b : ℕ) → Described t a b header time limit lines → r .cost ≡ regionCost t a b
+  pub fits : (t : Task) (a b : ℕ) → Described t a b header time limit lines → r .fits ≡ regionFits t a b
   pub small : r .cost < 2 ^ 48
 
 -- the length, the cost and the fit of the region from edge a to edge b

@@ -1,11 +1,12 @@
 // The regions of an accepted file: the loaded lines, the length, the cost and the fit of one; and those of one edge, each from the one before it.
+ghost use mathlib.Core.Bool.{cond};
 ghost use mathlib.Core.Path.{_≡_};
-ghost use Prim.Native.Nat.{_+_, _-_, _*_, _^_, _≤_, _<_};
+ghost use Prim.Native.Nat.{min, _+_, _*_, _^_, _≤_, _<_};
 ghost use Rattle.model.specs.Task.{Task, blockCount};
-ghost use Rattle.model.specs.Regions.{timeAfter, regionLines};
+ghost use Rattle.model.specs.Regions.{regionLines};
 ghost use Rattle.taskfile.specs.File.{IsAccepted, taskOf};
 ghost use Rattle.reuse.specs.Counts.{NewLines};
-ghost use Rattle.regions.specs.Measures.{Measures, Weighs, WeighsRegion, Counted};
+ghost use Rattle.regions.specs.Measures.{Measures, RunBetween, Weighs, WeighsRegion, Counted};
 use lineset::LineSet;
 use model::Header;
 
@@ -18,12 +19,19 @@ pub struct MeasuredRegion {
     pub fits: bool,
 }
 
-// A region whose lines are counted and whose times are summed up, block by block.
+// A region whose lines are counted and whose times are summed up, block by block, and the limit that counts for it.
 pub struct CountedRegion {
     pub from: usize,
     pub to: usize,
     pub lines: u32,
     pub time: u64,
+    pub limit: u32,
+}
+
+// The sum of the times of some blocks, and the limit that counts for them.
+struct Run {
+    time: u64,
+    limit: u32,
 }
 
 // What follows from a region's times and lines: its length, its cost and whether it fits.
@@ -57,37 +65,43 @@ pub fn weigh_between(file: &[u8], a: usize, b: usize, lines: u32) -> Weighed
     requires { ⌜ IsAccepted (now file) × (a ≤ b) × (b ≤ blockCount (taskOf (now file))) × (lines ≡ regionLines (taskOf (now file)) a b) ⌝ }
     ensures { λ r. ⌜ WeighsRegion (taskOf (now (file .entry))) a b r ⌝ }
 {
-    weigh(taskfile::header(file), time_between(file, a, b), lines)
+    let header = taskfile::header(file);
+    let run = run_between(file, a, b);
+    weigh(header, run.time, run.limit, lines)
 }
 
-// The sum of the times of blocks a + 1 to b.
-fn time_between(file: &[u8], a: usize, b: usize) -> u64
+// Blocks a + 1 to b.
+fn run_between(file: &[u8], a: usize, b: usize) -> Run
     requires { ⌜ IsAccepted (now file) × (a ≤ b) × (b ≤ blockCount (taskOf (now file))) ⌝ }
-    ensures { λ r. ⌜ (r ≡ timeAfter (taskOf (now (file .entry))) a (b - a)) × (r ≤ (b - a) * 4294967295) ⌝ }
+    ensures { λ r. ⌜ RunBetween (taskOf (now (file .entry))) a b (r .time) (r .limit) ⌝ }
 {
+    let header = taskfile::header(file);
     let mut time = 0u64;
+    let mut limit = header.limit;
     let mut i = a;
     while i < b {
         i += 1;
         time += taskfile::time(file, i) as u64;
+        limit = limit_with(header, limit, taskfile::armed(file, i));
     }
-    time
+    Run { time, limit }
 }
 
 impl CountedRegion {
     // No basic blocks, at edge a.
-    pub fn at(a: usize) -> Self
-        ensures { λ r. ⌜ ((t : Task) → a ≤ blockCount t → Counted t r) × (r .from ≡ a) × (r .to ≡ a) ⌝ }
+    pub fn at(header: Header, a: usize) -> Self
+        ensures { λ r. ⌜ ((t : Task) → header ≡ t .header → a ≤ blockCount t → Counted t r) × (r .from ≡ a) × (r .to ≡ a) ⌝ }
     {
         CountedRegion {
             from: a,
             to: a,
             lines: 0,
             time: 0,
+            limit: header.limit,
         }
     }
 
-    // One basic block more, with its time and the lines that the region loads first in it.
+    // One basic block more, with its time, the lines that the region loads first in it, and the limit that counts where the sampler is armed in it.
     pub fn longer(self, file: &[u8], counts: &[u8; 4096]) -> Self
         requires { ⌜ NewLines (now file) (now counts) × Counted (taskOf (now file)) self × (self .to < blockCount (taskOf (now file))) ⌝ }
         ensures { λ r. ⌜ Counted (taskOf (now (file .entry))) r × (r .from ≡ self .from) × (r .to ≡ self .to + 1) ⌝ }
@@ -99,25 +113,42 @@ impl CountedRegion {
         let lines = self.lines + new as u32;
         let before = self.time;
         let time = before + taskfile::time(file, next) as u64;
+        let armed = taskfile::armed(file, next);
+        let limit = limit_with(taskfile::header(file), self.limit, armed);
         CountedRegion {
             from,
             to: next,
             lines,
             time,
+            limit,
         }
     }
 }
 
-// The length, the cost and the fit of a region of these times and lines.
-pub fn weigh(header: Header, time: u64, lines: u32) -> Weighed
+// The length, the cost and the fit of a region of these times and lines, and for which this limit counts.
+pub fn weigh(header: Header, time: u64, limit: u32, lines: u32) -> Weighed
     requires { ⌜ (time ≤ 64 * 4294967295) × (lines ≤ 512) ⌝ }
-    ensures { λ r. ⌜ Weighs header time lines r ⌝ }
+    ensures { λ r. ⌜ Weighs header time limit lines r ⌝ }
 {
     let cost = header.reload as u64 * lines as u64;
     let length = time + cost;
+    let limit = limit as u64;
     Weighed {
         length,
         cost,
-        fits: length <= header.limit as u64,
+        fits: length <= limit,
+    }
+}
+
+// The limit that counts with one basic block more: the smaller of Q and Q2 where the sampler is armed in it.
+fn limit_with(header: Header, without: u32, armed: bool) -> u32
+    ensures { λ r. ⌜ r ≡ cond armed (min (header .limit) (header .«second_limit»)) without ⌝ }
+{
+    let limit = header.limit;
+    let second = header.second_limit;
+    if armed {
+        if second < limit { second } else { limit }
+    } else {
+        without
     }
 }

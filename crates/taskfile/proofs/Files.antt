@@ -10,6 +10,7 @@ use lib.Dec.{leb}
 use lib.ListN.{length, take, drop}
 use lib.Seq.{take-all, take-add, drop-drop}
 use borrow.Author.Tests.{le-leb, lt-leb}
+use Rattle.model.specs.Sets.{bit}
 use Rattle.model.specs.Task.{Task}
 use Rattle.block.specs.Bytes.{AllBytes, InWidth, packed, les, field, Each}
 use Rattle.block.specs.Blocks.{numbered, sealed}
@@ -122,7 +123,7 @@ file-bytes t =
     whole-bytes 0 (namedBytes t) (
       packed-bytes (taskNumbers t),
       each-append AllBytes (map basicBytes (t .blocks)) (map preempterBytes (t .preempters))
-          (all-map AllBytes basicBytes (λ b. entry-all 2 0 (b .time) (b .reads)) (t .blocks))
+          (all-map AllBytes basicBytes (λ b. entry-all 2 (bit (b .armed)) (b .time) (b .reads)) (t .blocks))
           (all-map AllBytes preempterBytes (λ p. entry-all 3 0 (p .id) (p .reads)) (t .preempters)),
     )
 

@@ -2,15 +2,17 @@
 -- Assumes nothing.
 use Prim.Native.Nat.{ℕ, zero, suc, _+_, _-_, _*_, _%_, _<_, _≤_}
 use mathlib.Core.Path.{_≡_, refl, ap, _∙_}
-use mathlib.Core.Bool.{true}
+use mathlib.Core.Bool.{Bool, true, false}
 use mathlib.Core.List.{List, [], _∷_, _++_, map, append-assoc}
 use native.Mathlib.Nat.{zero-add, add-zero, add-suc, suc-add}
 use native.Mathlib.Numerals.{one-add}
 use native.Mathlib.Decide.{decLe}
 use native.Mathlib.Omega.{arith}
+use lib.Dec.{eqb}
 use lib.ListN.{length, getD, length-append, length-map, List·getD-append, List·getD-map}
 use lib.Seq.{take-at, drop-append-add, getD-append-add, ext-getD}
 use borrow.Author.Tests.{le-leb, lt-leb, lt-ltb, eq-eqb}
+use Rattle.model.specs.Sets.{bit}
 use Rattle.model.specs.Task.{Block, Preempter, Task, blockCount, noBlock}
 use Rattle.model.specs.declared.Verdict.the-variants.{Accepted}
 use Rattle.block.specs.Bytes.{Sized, le, packed, field, Each}
@@ -64,6 +66,10 @@ module _ (k kind byte1 x : ℕ) (reads : List ℕ) (small : kind < 256) (flag : 
   unfolding numberAt
   count-back = rw numbers-entry
 
+  byte-back : field bytes 1 1 ≡ byte1
+  unfolding numberAt
+  byte-back = rw numbers-entry
+
   number-back : field bytes 4 4 ≡ x
   unfolding numberAt
   number-back = rw numbers-entry
@@ -80,9 +86,26 @@ module _ (k kind byte1 x : ℕ) (reads : List ℕ) (small : kind < 256) (flag : 
   unfolding entryRight
   entry-right = rw (count-back, number-back, reads-back, le-leb (length reads) 124 (w .count)) (body-sealed k (entryBytes kind byte1 x reads) room)
 
+-- byte 1 says whether a block is armed, and no more
+bit-small : (b : Bool) → bit b < 256
+bit-small true = omega arith
+bit-small false = omega arith
+
+bit-read : (b : Bool) → eqb (bit b) 1 ≡ b
+bit-read true = refl
+bit-read false = refl
+
 basic-back : (k : ℕ) (b : Block) → EntryWithin (b .time) (b .reads) → basicOf (sealed (numbered k (basicBytes b))) ≡ b
 unfolding basicOf basicBytes
-basic-back k b w = λ i. record { time = number-back k 2 0 (b .time) (b .reads) (omega arith) (omega arith) w i; reads = reads-back k 2 0 (b .time) (b .reads) (omega arith) (omega arith) w i }
+basic-back k b w =
+    let flag : bit (b .armed) < 256 = bit-small (b .armed) in
+    let byte : eqb (field (sealed (numbered k (entryBytes 2 (bit (b .armed)) (b .time) (b .reads)))) 1 1) 1 ≡ b .armed =
+    rw (byte-back k 2 (bit (b .armed)) (b .time) (b .reads) (omega arith) flag w) (bit-read (b .armed)) in
+    λ i. record {
+      time = number-back k 2 (bit (b .armed)) (b .time) (b .reads) (omega arith) flag w i;
+      armed = byte i;
+      reads = reads-back k 2 (bit (b .armed)) (b .time) (b .reads) (omega arith) flag w i;
+    }
 
 preempter-back : (k : ℕ) (p : Preempter) → EntryWithin (p .id) (p .reads) → preempterOf (sealed (numbered k (preempterBytes p))) ≡ p
 unfolding preempterOf preempterBytes
@@ -103,7 +126,7 @@ module _ (t : Task) (w : Within t) where
   pub basics-roomy : Each Room (map basicBytes (t .blocks))
   unfolding basicBytes
   basics-roomy =
-      each-map (λ b. EntryWithin (b .time) (b .reads)) Room basicBytes (λ b. room 0 2 0 (b .time) (b .reads) (omega arith) (omega arith)) (t .blocks) (w .blocks)
+      each-map (λ b. EntryWithin (b .time) (b .reads)) Room basicBytes (λ b. room 0 2 (bit (b .armed)) (b .time) (b .reads) (omega arith) (bit-small (b .armed))) (t .blocks) (w .blocks)
 
   pub preempters-roomy : Each Room (map preempterBytes (t .preempters))
   unfolding preempterBytes
@@ -217,8 +240,8 @@ module _ (t : Task) (w : Within t) where
   unfolding blockRight basicBytes
   basic-right i h =
       let b = getD (t .blocks) i noBlock in
-      rw (basic-written i h, counts-read, le-leb (1 + i) (blockCount t) (omega arith))
-      (entry-right (1 + i) 2 0 (b .time) (b .reads) (omega arith) (omega arith) (basic-within i h))
+      rw (counts-read, le-leb (1 + i) (blockCount t) (omega arith), basic-written i h, basic-back (1 + i) b (basic-within i h))
+      (entry-right (1 + i) 2 (bit (b .armed)) (b .time) (b .reads) (omega arith) (bit-small (b .armed)) (basic-within i h))
 
   preempter-right : (i : ℕ) → i < length (t .preempters) → blockRight (fileOf t) (1 + blockCount t + i) ≡ true
   unfolding blockRight preempterBytes

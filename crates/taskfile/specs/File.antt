@@ -7,6 +7,7 @@ use mathlib.Core.List.{List, [], _∷_, _++_, map}
 use lib.Dec.{eqb, leb, ltb}
 use lib.ListN.{length, take, drop}
 use Rattle.model.specs.Task.{Block, Preempter, Task, blockCount, lineCount}
+use Rattle.model.specs.Sets.{bit}
 use Rattle.model.specs.Answers.{refusedAt, andThen}
 use Rattle.model.specs.declared.Header.{Header}
 use Rattle.model.specs.declared.Scratch.{Scratch}
@@ -41,9 +42,9 @@ readsIn bs = fields bs 8 4 (field bs 2 2)
 unfoldable pub entryReads : List ℕ → ℕ → List ℕ
 entryReads file k = readsIn (blockIn file k)
 
--- a basic block: its time and its reads
+-- a basic block: its time, whether the sampler is armed in it, where byte 1 is 1 (document 02, item 9), and its reads
 unfoldable pub basicOf : List ℕ → Block
-basicOf bs = record { time = field bs 4 4; reads = readsIn bs }
+basicOf bs = record { time = field bs 4 4; armed = eqb (field bs 1 1) 1; reads = readsIn bs }
 
 -- a preempter block: its id and its reads
 unfoldable pub preempterOf : List ℕ → Preempter
@@ -63,6 +64,7 @@ headerOf file =
       reload = field file 12 4;
       id = field file 16 4;
       scratch = record { first = field file 20 4; count = field file 24 4 };
+      «second_limit» = field file 28 4;
     }
 
 -- and the task: the header's numbers, and the blocks after the header
@@ -84,6 +86,7 @@ headerNumbers n m h =
     (4, h .id) ∷
     (4, h .scratch .first) ∷
     (4, h .scratch .count) ∷
+    (4, h .«second_limit») ∷
     []
 
 -- those of a task's header
@@ -94,11 +97,11 @@ taskNumbers t = headerNumbers (blockCount t) (length (t .preempters)) (t .header
 unfoldable pub entryBytes : ℕ → ℕ → ℕ → List ℕ → List ℕ
 entryBytes kind byte1 x reads = packed ((1, kind) ∷ (1, byte1) ∷ (2, length reads) ∷ (4, x) ∷ []) ++ les 4 reads
 
--- a basic block is of kind 2
+-- a basic block is of kind 2; byte 1 is 1 where the sampler is armed, else 0
 unfoldable pub basicBytes : Block → List ℕ
-basicBytes b = entryBytes 2 0 (b .time) (b .reads)
+basicBytes b = entryBytes 2 (bit (b .armed)) (b .time) (b .reads)
 
--- a preempter block is of kind 3
+-- a preempter block is of kind 3, and its byte 1 is 0
 unfoldable pub preempterBytes : Preempter → List ℕ
 preempterBytes p = entryBytes 3 0 (p .id) (p .reads)
 
@@ -139,7 +142,7 @@ countsInRange n m s = leb 1 n && leb n 64 && leb m 32 && leb 1 s && leb s 512
 unfoldable pub scratchInRange : Scratch → Bool
 scratchInRange s = leb (s .first + s .count) 4294967296
 
--- the ranges of a task's N, M, S and scratch range; Q, R and id are free
+-- the ranges of a task's N, M, S and scratch range; Q, Q2, R and id are free
 unfoldable pub headerInRange : Task → Bool
 headerInRange t = countsInRange (blockCount t) (length (t .preempters)) (lineCount t) && scratchInRange (t .header .scratch)
 
@@ -154,7 +157,9 @@ entryRight k kind byte1 bs = leb (field bs 2 2) 124 && bodyRight k (entryBytes k
 
 -- block k is right: a basic block up to N, and a preempter block after it
 unfoldable pub blockRight : List ℕ → ℕ → Bool
-blockRight file k = cond (leb k (counts file .blocks)) (entryRight k 2 0 (blockIn file k)) (entryRight k 3 0 (blockIn file k))
+blockRight file k =
+    let bs = blockIn file k in
+    cond (leb k (counts file .blocks)) (entryRight k 2 (bit (basicOf bs .armed)) bs) (entryRight k 3 0 bs)
 
 -- the rows of the table, each as if it stood alone. Refusal 1: a wrong length
 unfoldable pub lengthRow : List ℕ → Verdict

@@ -4,8 +4,8 @@
 use Prim.Native.Nat.{ℕ}
 use mathlib.Core.Path.{_≡_}
 use mathlib.Core.Bool.{cond, _&&_}
-use mathlib.Core.List.{List}
-use lib.ListN.{length, take}
+use mathlib.Core.List.{List, _∷_, _++_}
+use lib.ListN.{length, take, drop}
 use Rattle.model.specs.Task.{Task, blockCount, lineCount}
 use Rattle.model.specs.Answers.{andThen}
 use Rattle.model.specs.Laws.{SeesRemainders}
@@ -28,12 +28,13 @@ AcceptedWithin = (file : List ℕ) → IsAccepted file → Within (taskOf file)
 abbrev pub FileThenTask : Type 0
 FileThenTask = (t : Task) → Within t → IsAccepted (fileOf t) × (taskOf (fileOf t) ≡ t)
 
--- the answer to any bytes as it was before there was a scratch range: of the header N, M and S are in range, and all bytes are zero behind its
+-- the answer to any bytes as it was before there was a scratch range: of the header N, M and S are in range, and eight bytes are zero behind its
 -- first eight numbers, the last of which is the id
 unfoldable pub verdictBefore : List ℕ → Verdict
 verdictBefore file =
     let t = taskOf file in
-    let right = countsInRange (blockCount t) (length (t .preempters)) (lineCount t) && bodyRight 0 (packed (take 8 (taskNumbers t))) (blockIn file 0) in
+    let numbers = take 8 (taskNumbers t) ++ ((8, 0) ∷ drop 10 (taskNumbers t)) in
+    let right = countsInRange (blockCount t) (length (t .preempters)) (lineCount t) && bodyRight 0 (packed numbers) (blockIn file 0) in
     andThen (lengthRow file) (andThen (checksumRow file) (andThen (cond right Accepted (Refused WrongHeader)) (andThen (countRow file) (blockRow file))))
 
 -- a file with zeros in bytes 20 to 27 has the verdict that it had, and all that answers are made of is as it was

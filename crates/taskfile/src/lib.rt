@@ -3,9 +3,10 @@ ghost use mathlib.Core.Path.{_≡_};
 ghost use Prim.Native.Nat.{_+_, _-_, _*_, _^_, _<_, _≤_};
 ghost use lib.ListN.{length, getD};
 ghost use Rattle.model.specs.Answers.{andThen};
+ghost use Rattle.model.specs.Sets.{bit};
 ghost use Rattle.model.specs.Task.{blockCount};
 ghost use Rattle.model.specs.Lines.{blockAt};
-ghost use Rattle.taskfile.specs.File.{blockIn, counts, entryReads, headerOf, taskOf, basicBlocks, preempterBlocks, lengthRight, countsInRange, scratchInRange, headerInRange, headerRight, entryRight, blockRight, checksumRow, headerRow, countRow, blockRow, IsAccepted, verdict};
+ghost use Rattle.taskfile.specs.File.{blockIn, counts, basicOf, entryReads, headerOf, taskOf, basicBlocks, preempterBlocks, lengthRight, countsInRange, scratchInRange, headerInRange, headerRight, entryRight, blockRight, checksumRow, headerRow, countRow, blockRow, IsAccepted, verdict};
 ghost use Rattle.taskfile.specs.Steps.{fourRight, LeftToTest};
 use model::Header;
 use model::Refusal;
@@ -13,7 +14,7 @@ use model::Scratch;
 use model::Verdict;
 
 // Where the header's named bytes end.
-pub const HEADER_END: usize = 28;
+pub const HEADER_END: usize = 32;
 
 // The answer to any bytes.
 pub fn check(file: &[u8]) -> Verdict
@@ -131,6 +132,7 @@ fn read_header(file: &[u8]) -> Header
             first: block::u32_at(file, 20),
             count: block::u32_at(file, 24),
         },
+        second_limit: block::u32_at(file, 28),
     }
 }
 
@@ -207,17 +209,25 @@ fn check_entries(file: &[u8], blocks: u16, count: usize) -> Verdict
     Verdict::Accepted
 }
 
-// Whether block k is right: the basic blocks come first.
+// Whether block k is right: the basic blocks come first, and their byte 1 is 0 or 1.
 fn block_right(file: &[u8], blocks: u16, k: usize) -> bool
     requires { ⌜ (blocks ≡ counts (now file) .blocks) × (k * 512 + 512 ≤ length (now file)) × (k < 2 ^ 32) ⌝ }
     ensures { λ r. ⌜ r ≡ blockRight (now (file .entry)) k ⌝ }
 {
     let block = block_at(file, k);
     if k <= blocks as usize {
-        entry_right(block, k, 2, 0)
+        entry_right(block, k, 2, armed_byte(block))
     } else {
         entry_right(block, k, 3, 0)
     }
+}
+
+// What byte 1 of a basic block is to be, by whether the sampler is armed in it.
+fn armed_byte(block: &[u8]) -> u8
+    requires { ⌜ length (now block) ≡ 512 ⌝ }
+    ensures { λ r. ⌜ r ≡ bit (basicOf (now (block .entry)) .armed) ⌝ }
+{
+    (block[1] == 1) as u8
 }
 
 // Whether a block has this number, kind and byte 1, and at most 124 reads.
@@ -282,6 +292,14 @@ pub fn time(file: &[u8], k: usize) -> u32
     ensures { λ r. ⌜ r ≡ blockAt (taskOf (now (file .entry))) (k - 1) .time ⌝ }
 {
     block::u32_at(file, k * 512 + 4)
+}
+
+// Whether the sampler is armed in basic block k.
+pub fn armed(file: &[u8], k: usize) -> bool
+    requires { ⌜ IsAccepted (now file) × (1 ≤ k) × (k ≤ blockCount (taskOf (now file))) ⌝ }
+    ensures { λ r. ⌜ r ≡ blockAt (taskOf (now (file .entry))) (k - 1) .armed ⌝ }
+{
+    file[k * 512 + 1] == 1
 }
 
 // How many numbers block k of the file reads.

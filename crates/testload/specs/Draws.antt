@@ -1,5 +1,6 @@
 -- The task that a seed draws (document 02, item 6). Assumes nothing.
 use Prim.Native.Nat.{ℕ, zero, suc, _+_, _*_, _/_, _%_, _^_}
+use mathlib.Core.Bool.{false}
 use mathlib.Core.List.{List, [], _∷_}
 use Rattle.model.specs.Task.{Block, Preempter, Task}
 use Rattle.model.specs.declared.Header.{Header}
@@ -33,9 +34,9 @@ drawnReads s = drawnList drawnNumber next 0 (draw s % 125) (next s)
 unfoldable pub afterReads : ℕ → ℕ
 afterReads s = after next (draw s % 125) (next s)
 
--- a basic block: its time is drawn before its reads
+-- a basic block: its time is drawn before its reads, and the sampler is not armed in it (document 02, item 9)
 unfoldable pub drawnBlock : ℕ → ℕ → Block
-drawnBlock i s = record { time = 1 + draw s % 1000; reads = drawnReads (next s) }
+drawnBlock i s = record { time = 1 + draw s % 1000; armed = false; reads = drawnReads (next s) }
 
 unfoldable pub afterBlock : ℕ → ℕ
 afterBlock s = afterReads (next s)
@@ -44,9 +45,10 @@ afterBlock s = afterReads (next s)
 unfoldable pub drawnPreempter : ℕ → ℕ → Preempter
 drawnPreempter i s = record { id = i; reads = drawnReads s }
 
--- the header of a seed, S, Q and R: the id is the seed, and the scratch range is empty (header bytes 20 to 27 are zero)
+-- the header of a seed, S, Q and R: the id is the seed, the scratch range is empty, and Q2 is 0 (header bytes 20 to 31 are zero)
 abbrev pub drawnHeader : ℕ → ℕ → ℕ → ℕ → Header
-drawnHeader seed s q r = record { «line_count» = s; limit = q; reload = r; id = seed; scratch = record { first = 0; count = 0 } }
+drawnHeader seed s q r =
+    record { «line_count» = s; limit = q; reload = r; id = seed; scratch = record { first = 0; count = 0 }; «second_limit» = 0 }
 
 -- the task of a seed, N, M, S, Q and R: the preempters go on with the state that the basic blocks left
 unfoldable pub drawnTask : ℕ → ℕ → ℕ → ℕ → ℕ → ℕ → Task

@@ -58,7 +58,7 @@ fn put_block(block: &mut [u8], i: u32, state: u32) -> u32
     let count = draw(time.state);
     let reads = (count.number % 125) as usize;
     let after = put_numbers(block, reads, count.state);
-    writer::close_basic(block, 1 + i, 1 + time.number % 1000, reads);
+    writer::close_basic(block, 1 + i, 1 + time.number % 1000, false, reads);
     after
 }
 
@@ -128,6 +128,7 @@ fn put_task(
         reload,
         id: seed,
         scratch: Scratch { first: 0, count: 0 },
+        second_limit: 0,
     };
     let state = put_blocks(out, blocks as usize, seed);
     put_preempters(out, blocks as usize, preempters as usize, state);

@@ -28,6 +28,7 @@ fn put_header(block: &mut [u8], blocks: u16, preempters: u16, header: Header)
         header.id,
         header.scratch.first,
         header.scratch.count,
+        header.second_limit,
     ];
     block::put_u16(block, 0, 1);
     block::put_u16(block, 2, blocks);
@@ -60,12 +61,12 @@ fn close_entry(block: &mut [u8], number: u32, kind: u8, byte_1: u8, x: u32, coun
 }
 
 // Stores what else stands in a basic block whose numbers are stored.
-pub fn close_basic(block: &mut [u8], number: u32, time: u32, count: usize)
+pub fn close_basic(block: &mut [u8], number: u32, time: u32, armed: bool, count: usize)
     requires { ⌜ length (now block) ≡ 512 ⌝ }
     requires { ⌜ count ≤ 124 ⌝ }
-    ensures { λ _. ⌜ take 508 (now (block .exit)) ≡ numbered number (basicBytes (record { time = time; reads = storedReads (now (block .entry)) count })) ⌝ }
+    ensures { λ _. ⌜ take 508 (now (block .exit)) ≡ numbered number (basicBytes (record { time = time; armed = armed; reads = storedReads (now (block .entry)) count })) ⌝ }
 {
-    close_entry(block, number, 2, 0, time, count);
+    close_entry(block, number, 2, armed as u8, time, count);
 }
 
 // Stores what else stands in a preempter block whose numbers are stored.

@@ -44,7 +44,10 @@ impl Trial<'_> {
             );
         }
         match reference.model() {
-            Ok(model) => self.counts.scratch(model),
+            Ok(model) => {
+                self.counts.scratch(model);
+                self.counts.arming(model);
+            }
             Err(_) => self.counts.too_far_a_range(&reference.file),
         }
         self.plan(&asked)?;
@@ -115,8 +118,13 @@ impl Trial<'_> {
     }
 
     fn plan(&mut self, asked: &Asked) -> Result<(), String> {
-        if let Ok(block) = self.ask(asked, "plan", &Call::Plan)? {
-            self.counts.plan(&asked.reference, &points_of(&block));
+        match (
+            self.ask(asked, "plan", &Call::Plan)?,
+            asked.reference.model(),
+        ) {
+            (Ok(block), _) => self.counts.plan(&asked.reference, &points_of(&block)),
+            (Err(refusal), Ok(model)) if refusal.number == 6 => self.counts.no_plan(model),
+            _ => {}
         }
         Ok(())
     }
@@ -127,8 +135,12 @@ impl Trial<'_> {
             let answer = self
                 .ask(asked, "price", &Call::Price(&block))
                 .map_err(|text| format!("points: {said}\n{text}"))?;
-            if let (Ok(_), Ok(model)) = (answer, asked.reference.model()) {
-                self.counts.price(model, &block);
+            match (answer, asked.reference.model()) {
+                (Ok(_), Ok(model)) => self.counts.price(model, &block),
+                (Err(refusal), Ok(model)) if refusal.number == 8 => {
+                    self.counts.above(model, &block, refusal.place);
+                }
+                _ => {}
             }
         }
         Ok(())

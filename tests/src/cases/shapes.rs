@@ -1,6 +1,7 @@
 //! Which answers and which shapes of files, lists and plans came up.
 
 use crate::counts::Counts;
+use crate::inputs::tasks::tightest;
 use crate::reference::bytes::{field, seal, BLOCK};
 use crate::reference::calls::{Answer, Reference};
 use crate::reference::choice::TRY_ALL;
@@ -121,6 +122,34 @@ impl Counts {
         self.add_if(model.strikes_fewer(), "fewer lines struck");
     }
 
+    pub fn arming(&mut self, model: &Model) {
+        let task = &model.task;
+        let count = task.blocks.iter().filter(|block| block.armed).count();
+        let (some, q, q2) = (count > 0, task.limit, task.second);
+        self.add(match count {
+            0 => "no block armed",
+            1 => "one block armed",
+            _ if count < model.n => "some blocks armed",
+            _ => "all blocks armed",
+        });
+        self.add_if(some && q2 < q, "armed, Q2 below Q");
+        self.add_if(some && q2 == q, "armed, Q2 at Q");
+        self.add_if(some && q2 > q, "armed, Q2 above Q");
+    }
+
+    /// A refused plan: a list may fit Q.
+    pub fn no_plan(&mut self, model: &Model) {
+        let fits_q = tightest(model) <= model.task.limit as u64;
+        self.add_if(fits_q, "6 by Q2 alone");
+    }
+
+    /// A list that is refused at a stretch, which may be within Q.
+    pub fn above(&mut self, model: &Model, block: &[u8], place: usize) {
+        let (a, b) = model.stretches(&points_of(block))[place];
+        let within_q = model.length(a, b) <= model.task.limit as u64;
+        self.add_if(within_q, "8 by Q2 alone");
+    }
+
     pub fn search(&mut self, task: &Task, line: usize, k: usize) {
         let lines::Found { number, looked } = lines::next_read(task, line, k);
         let near = task.blocks.get(k).map_or(0, |block| block.numbers.len());
@@ -145,6 +174,12 @@ impl Counts {
             self.add("join: 0");
             self.add_if(first < second, "Q of the first");
             self.add_if(second < first, "Q of the second");
+            let [first, second] = [pair.first, pair.second].map(|file| field(file, 28, 4));
+            self.add_if(first < second, "Q2 of the first");
+            self.add_if(second < first, "Q2 of the second");
+            let blocks = [pair.first, pair.second].map(|file| Task::read(file).blocks);
+            let armed = blocks.iter().flatten().any(|block| block.armed);
+            self.add_if(armed, "armed file joined");
             self.add_if(n == 64, "joined N 64");
             self.add_if(m == 32, "joined M 32");
             self.add_if(n == 64 && m == 32, "97 blocks joined");

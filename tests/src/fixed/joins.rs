@@ -1,6 +1,6 @@
 //! Two files joined.
 
-use super::{one_block, seven_with, Fixed};
+use super::{armed_seven, one_block, seven_with, Fixed};
 use crate::inputs::known::{largest, reads, seven};
 use crate::reference::bytes::{put, seal, BLOCK};
 use crate::reference::files::Task;
@@ -18,6 +18,13 @@ pub fn run(f: &mut Fixed) -> Result<(), String> {
     right.id = 1;
     right.blocks.rotate_right(1);
     f.joined("one block and File Seven", [&other, &file], &right)?;
+    let (low, high) = (armed_seven(20, &[1]), armed_seven(30, &[4]));
+    let mut both = twice(&low);
+    both.blocks[4].armed = false;
+    both.blocks[7].armed = true;
+    f.joined("Q2 20 and 30", [&low.file(), &high.file()], &both)?;
+    both.blocks.rotate_left(4);
+    f.joined("Q2 30 and 20", [&high.file(), &low.file()], &both)?;
     for more in [-3584, -512, -1, 1, 512] {
         let files = [&file[..], &other];
         f.not_joined("File Seven and one block", files, more, (9, 0))?;

@@ -160,6 +160,7 @@ fn one_block(time: u32, limit: u32) -> Task {
         reload: 10,
         id: 1,
         scratch: Scratch::NONE,
+        second: 0,
         blocks: vec![reads(time, &[0])],
         interrupters: Vec::new(),
     }
@@ -286,6 +287,7 @@ pub fn run(driver: &mut Driver) -> Result<(), String> {
     f.next(44, 1, None, 4)?;
 
     scratch(&mut f)?;
+    armed(&mut f)?;
 
     let most = largest();
     f.task("the largest file", &most);
@@ -393,6 +395,70 @@ fn scratch(f: &mut Fixed) -> Result<(), String> {
     ] {
         f.task(&format!("{count} from {first}"), &seven_with(first, count));
         f.refused(&Call::Plan, 3, 0)?;
+    }
+    Ok(())
+}
+
+/// File Seven at Q 60 with this Q2 and these blocks armed.
+fn armed_seven(second: u32, armed: &[usize]) -> Task {
+    let mut task = seven(60);
+    task.second = second;
+    for &k in armed {
+        task.blocks[k - 1].armed = true;
+    }
+    task
+}
+
+/// A second limit where the sampler is armed.
+fn armed(f: &mut Fixed) -> Result<(), String> {
+    type Row<'a> = (&'a [usize], u32, Option<(&'a [usize], u64)>);
+    let all = &[1, 2, 3, 4];
+    let rows: [Row; 15] = [
+        (&[], 0, Some((&[1, 2], 10))),
+        (&[], u32::MAX, Some((&[1, 2], 10))),
+        (&[1], 20, Some((&[1, 2], 10))),
+        (&[1], 19, None),
+        (&[3], 30, Some((&[1, 2, 3], 20))),
+        (&[3], 29, None),
+        (&[3], 50, Some((&[1, 2], 10))),
+        (&[4], 30, Some((&[3], 10))),
+        (&[4], 50, Some((&[1, 2], 10))),
+        (&[2, 3], 30, Some((&[1, 2, 3], 20))),
+        (all, 29, None),
+        (all, 39, Some((&[1, 2, 3], 20))),
+        (all, 40, Some((&[1, 2, 3], 20))),
+        (all, 60, Some((&[1, 2], 10))),
+        (all, 70, Some((&[1, 2], 10))),
+    ];
+    for (blocks, second, right) in rows {
+        f.task(
+            &format!("File Seven, {blocks:?} armed, Q2 {second}"),
+            &armed_seven(second, blocks),
+        );
+        match right {
+            Some((points, price)) => f.planned(points, price)?,
+            None => f.refused(&Call::Plan, 6, 0)?,
+        }
+    }
+    f.task("File Seven, block 4 armed", &armed_seven(30, &[4]));
+    f.refused(&Call::Price(&plan_block(4, &[2])), 8, 1)?;
+    f.anything(&Call::Price(&plan_block(4, &[3])))?;
+    f.task("File Seven, block 1 armed", &armed_seven(19, &[1]));
+    f.refused(&Call::Price(&plan_block(4, &[1])), 8, 0)?;
+
+    for (block, value, place) in [
+        (1, 2, 1),
+        (4, 255, 4),
+        (3, 3, 3),
+        (5, 1, 5),
+        (5, 2, 5),
+        (5, 255, 5),
+    ] {
+        let mut file = armed_seven(30, &[4]).file();
+        file[block * BLOCK + 1] = value;
+        seal(&mut file[block * BLOCK..(block + 1) * BLOCK]);
+        f.file(&format!("byte 1 of block {block} is {value}"), &file);
+        f.refused(&Call::Plan, 5, place)?;
     }
     Ok(())
 }

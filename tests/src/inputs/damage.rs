@@ -218,7 +218,9 @@ fn damage_header(rng: &mut Rng, header: &mut [u8]) -> String {
             format!("S {s}")
         }
         6 => {
-            let at = rng.pick(&[20, 21, 22, 23, 24, 25, 26, 27, 28, 28, 29, 30, 31, 503, 502]);
+            let at = rng.pick(&[
+                20, 21, 22, 23, 24, 25, 26, 27, 28, 29, 30, 31, 32, 32, 33, 503, 502,
+            ]);
             header[at] = other_byte(rng, header[at]);
             format!("header byte {at}")
         }
@@ -256,8 +258,8 @@ fn damage_reads(rng: &mut Rng, block: &mut [u8], i: usize) -> String {
             format!("kind {} in block {i}", block[0])
         }
         1 => {
-            block[1] = other_byte(rng, block[1]);
-            format!("byte 1 of block {i}")
+            block[1] = rng.pick(&[0, 1, 1, 2, 2, 3, 128, 129, 255]);
+            format!("byte 1 {} of block {i}", block[1])
         }
         2 | 3 => {
             let r = rng.pick(&[

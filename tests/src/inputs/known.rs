@@ -6,6 +6,7 @@ use crate::rng::Rng;
 pub fn reads(word: u32, numbers: &[u32]) -> Reads {
     Reads {
         word,
+        armed: false,
         numbers: numbers.to_vec(),
     }
 }
@@ -18,6 +19,7 @@ pub fn seven(limit: u32) -> Task {
         reload: 10,
         id: 7,
         scratch: Scratch::NONE,
+        second: 0,
         blocks: vec![
             reads(20, &[0, 1]),
             reads(20, &[2]),
@@ -35,7 +37,11 @@ pub fn largest() -> Task {
         let numbers: Vec<u32> = (0..124)
             .map(|_| (rng.below(512) + 512 * rng.below(2)) as u32)
             .collect();
-        Reads { word, numbers }
+        Reads {
+            word,
+            armed: false,
+            numbers,
+        }
     };
     Task {
         lines: 512,
@@ -43,6 +49,7 @@ pub fn largest() -> Task {
         reload: 10,
         id: 64,
         scratch: Scratch::NONE,
+        second: 0,
         blocks: (0..64).map(|i| block(100 + i)).collect(),
         interrupters: (0..32).map(&mut block).collect(),
     }

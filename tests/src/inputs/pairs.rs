@@ -1,7 +1,7 @@
 //! Files to join.
 
 use super::damage::damage;
-use super::tasks::{any_word, random_lines, task_without_limit};
+use super::tasks::{any_word, arm_some, random_lines, task_without_limit};
 use crate::reference::files::{Reads, Task};
 use crate::rng::Rng;
 
@@ -47,13 +47,14 @@ pub fn random_three(rng: &mut Rng) -> [Vec<u8>; 3] {
     files.try_into().unwrap()
 }
 
-/// One task cut into several, each with a limit and an id of its own. Its blocks are repeated or left out, so that N and M are
+/// One task cut into several, each with limits and an id of its own. Its blocks are repeated or left out, so that N and M are
 /// these in all; where it has no interrupter, M is 0.
 fn parts(rng: &mut Rng, task: &Task, totals: [usize; 2], count: usize) -> Vec<Task> {
     let again = |reads: &[Reads], total: usize| -> Vec<Reads> {
         reads.iter().cycle().take(total).cloned().collect()
     };
     let mut blocks = again(&task.blocks, totals[0]);
+    arm_some(rng, &mut blocks);
     let mut interrupters = again(&task.interrupters, totals[1]);
     let basic = shares(rng, blocks.len(), count, 1, 64);
     let others = shares(rng, interrupters.len(), count, 0, 32);
@@ -62,9 +63,10 @@ fn parts(rng: &mut Rng, task: &Task, totals: [usize; 2], count: usize) -> Vec<Ta
     let limit = limit.min(u32::MAX as u64) as u32;
     let mut tasks = Vec::new();
     for (n, m) in basic.into_iter().zip(others) {
-        let (any, near) = (any_word(rng), rng.below(9) as u32);
+        let (any, any_second, near) = (any_word(rng), any_word(rng), rng.below(9) as u32);
         tasks.push(Task {
             limit: rng.pick(&[limit, limit.saturating_add(near), any]),
+            second: rng.pick(&[limit / 2, limit, limit.saturating_add(1 + near), any_second]),
             id: any_word(rng),
             blocks: blocks.drain(..n).collect(),
             interrupters: interrupters.drain(..m).collect(),

@@ -39,6 +39,7 @@ pub fn renumbered(rng: &mut Rng, task: &Task) -> Task {
     let mut interrupters: Vec<Reads> = (0..task.interrupters.len())
         .map(|_| Reads {
             word: any_word(rng),
+            armed: false,
             numbers: Vec::new(),
         })
         .collect();
@@ -179,10 +180,47 @@ pub fn random_task(rng: &mut Rng) -> Task {
     let mut task = task_without_limit(rng);
     let model = Model::new(task.clone());
     task.limit = random_limit(rng, &model);
+    arm_some(rng, &mut task.blocks);
+    task.second = random_second(rng, &model, task.limit);
     task
 }
 
-/// A random task with Q 0.
+/// Arms no block, one, all, or some.
+pub fn arm_some(rng: &mut Rng, blocks: &mut [Reads]) {
+    let (kind, one) = (rng.below(10), rng.below(blocks.len()));
+    let part = rng.pick(&[10, 30, 50, 90]);
+    for (i, block) in blocks.iter_mut().enumerate() {
+        block.armed = match kind {
+            0..=3 => false,
+            4..=5 => i == one,
+            6 => true,
+            _ => rng.percent(part),
+        };
+    }
+}
+
+/// Q2: at its ends, at Q and beside it, at a stretch's length and beside it, or near the least that lets a list fit.
+fn random_second(rng: &mut Rng, model: &Model, limit: u32) -> u32 {
+    let q2 = match rng.below(12) {
+        0 => 0,
+        1 => u32::MAX as u64,
+        2 => any_word(rng) as u64,
+        3..=4 => beside(rng, limit as u64),
+        5..=8 => {
+            let a = rng.below(model.n);
+            let b = rng.between(a + 1, model.n.min(a + 4));
+            beside(rng, model.length(a, b))
+        }
+        _ => {
+            let tight = tightest(model);
+            let most = (limit as u64).max(tight);
+            tight + (rng.next() % (most - tight + 1)) / rng.pick(&[1, 2, 4, 8])
+        }
+    };
+    q2.min(u32::MAX as u64) as u32
+}
+
+/// A random task with Q and Q2 0 and nothing armed.
 pub fn task_without_limit(rng: &mut Rng) -> Task {
     let dense = rng.below(150) == 0;
     // Few lines, read over and over and struck often: the choice of points matters.
@@ -242,6 +280,7 @@ pub fn task_without_limit(rng: &mut Rng) -> Task {
             .collect();
         blocks.push(Reads {
             word: time,
+            armed: false,
             numbers,
         });
     }
@@ -268,6 +307,7 @@ pub fn task_without_limit(rng: &mut Rng) -> Task {
         }
         interrupters.push(Reads {
             word: any_word(rng),
+            armed: false,
             numbers,
         });
     }
@@ -293,6 +333,7 @@ pub fn task_without_limit(rng: &mut Rng) -> Task {
         reload,
         id: any_word(rng),
         scratch,
+        second: 0,
         blocks,
         interrupters,
     }
@@ -384,7 +425,7 @@ fn beside(rng: &mut Rng, length: u64) -> u64 {
 }
 
 /// The least Q at which some list fits.
-fn tightest(model: &Model) -> u64 {
+pub fn tightest(model: &Model) -> u64 {
     let n = model.n;
     let mut need = vec![0; n + 1];
     for a in (0..n).rev() {

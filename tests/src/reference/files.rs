@@ -6,10 +6,11 @@ use crate::bugs::{bug, But};
 
 pub const MOST_BLOCKS: usize = 97;
 
-/// One basic block (`word` is its time) or interrupter block (`word` is its id).
+/// One basic block (`word` is its time) or interrupter block (`word` is its id). The sampler may be armed in a basic block.
 #[derive(Clone)]
 pub struct Reads {
     pub word: u32,
+    pub armed: bool,
     pub numbers: Vec<u32>,
 }
 
@@ -50,6 +51,8 @@ pub struct Task {
     pub reload: u32,
     pub id: u32,
     pub scratch: Scratch,
+    /// Q2.
+    pub second: u32,
     pub blocks: Vec<Reads>,
     pub interrupters: Vec<Reads>,
 }
@@ -76,6 +79,7 @@ impl Task {
         let (n, m) = sizes(header);
         let reads = |block: &&[u8]| Reads {
             word: field(block, 4, 4) as u32,
+            armed: block[1] == 1,
             numbers: (0..count_of(block))
                 .map(|i| field(block, 8 + 4 * i, 4) as u32)
                 .collect(),
@@ -89,6 +93,7 @@ impl Task {
                 first: field(header, 20, 4) as u32,
                 count: field(header, 24, 4) as u32,
             },
+            second: field(header, 28, 4.but("Q2 in sixteen bits", 2)) as u32,
             blocks: blocks[1..1 + n].iter().map(reads).collect(),
             interrupters: blocks[1 + n..1 + n + m].iter().map(reads).collect(),
         }
@@ -105,11 +110,13 @@ impl Task {
         put(&mut header, 16, 4, self.id as u64);
         put(&mut header, 20, 4, self.scratch.first as u64);
         put(&mut header, 24, 4, self.scratch.count as u64);
+        put(&mut header, 28, 4, self.second as u64);
         let mut file = header;
         for (kind, blocks) in [(2, &self.blocks), (3, &self.interrupters)] {
             for reads in blocks {
                 let mut block = vec![0; BLOCK];
                 block[0] = kind;
+                block[1] = reads.armed as u8;
                 put(&mut block, 2, 2, reads.numbers.len() as u64);
                 put(&mut block, 4, 4, reads.word as u64);
                 for (i, &m) in reads.numbers.iter().enumerate() {
@@ -146,11 +153,11 @@ pub fn zero_from(block: &[u8], at: usize) -> bool {
     block[at.min(end)..end].iter().all(|&b| b == 0)
 }
 
-/// Byte 1 and the number of a block.
-pub fn framed(block: &[u8], i: usize) -> bool {
+/// Byte 1, which has a most, and the number of a block.
+pub fn framed(block: &[u8], i: usize, most: u8) -> bool {
     let number = field(block, 504, 4);
     let number = number.but("block numbers in eight bits", number % 256);
-    number == i as u64 && (block[1] == 0 || bug("byte 1 not looked at"))
+    number == i as u64 && (block[1] <= most || bug("byte 1 not looked at"))
 }
 
 fn header_is_right(header: &[u8]) -> bool {
@@ -168,20 +175,28 @@ fn header_is_right(header: &[u8]) -> bool {
             if count == 0 { 0 } else { 1 << 32 },
         );
     header[0] == 1
-        && framed(header, 0)
+        && framed(header, 0, 0.but("byte 1 of a header may be 1", 1))
         && (1..=most_n).contains(&n)
         && m <= most_m
         && (1..=most_s).contains(&s)
         && end <= most_end
-        && zero_from(header, 28.but("byte 28 not looked at", 29))
+        && zero_from(header, 32.but("byte 32 not looked at", 33))
 }
 
 fn reads_are_right(block: &[u8], i: usize, n: usize) -> bool {
-    let kind = if i <= n { 2 } else { 3 };
+    let basic = i <= n;
+    let kind = if basic { 2 } else { 3 };
+    let most = if basic {
+        1.but("byte 1 of 2 taken", 2)
+            .but("byte 1 any value", 255)
+            .but("armed blocks refused", 0)
+    } else {
+        0.but("byte 1 of an interrupter may be 1", 1)
+    };
     let r = count_of(block);
     let zeros = zero_from(block, 8 + 4 * r.min(124));
     (block[0] == kind || matches!(block[0], 2 | 3) && bug("kinds 2 and 3 alike"))
-        && framed(block, i)
+        && framed(block, i, most)
         && r <= 124.but("124 refused", 123).but("125 taken", 125)
         && (zeros || bug("bytes after the numbers not looked at"))
 }

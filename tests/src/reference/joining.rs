@@ -1,7 +1,7 @@
 //! Two files joined (document 02, item 8).
 
 use super::bytes::{field, BLOCK};
-use super::files::{file_refusal, sizes, Scratch, Task};
+use super::files::{file_refusal, sizes, Reads, Scratch, Task};
 use super::{refuse, Refusal};
 use crate::bugs::{bug, But};
 
@@ -38,12 +38,14 @@ impl Pair<'_> {
             && !bug("range compared without its first")
             && !(no_range && bug("empty ranges alike"));
         let count = differ(24, 4) && !bug("range compared without its count");
+        let second = differ(28, 4) && bug("Q2 compared");
         let mut names = Vec::new();
         for (name, differs) in [
             ("S", s),
             ("R", r),
             ("range's first", first),
             ("range's count", count),
+            ("Q2", second),
         ] {
             if differs {
                 names.push(name);
@@ -107,6 +109,14 @@ impl Pair<'_> {
         } else {
             more_q
         };
+        let (q2, more_q2) = (first.second, second.second);
+        let disarmed = |blocks: &[Reads]| -> Vec<Reads> {
+            let off = |block: &Reads| Reads {
+                armed: false,
+                ..block.clone()
+            };
+            blocks.iter().map(off).collect()
+        };
         let concat = |one: &[_], other: &[_]| [one, other].concat();
         let task = Task {
             limit: q
@@ -115,12 +125,22 @@ impl Pair<'_> {
                 .but("the first's Q", q)
                 .but("the second's Q", more_q)
                 .but("Q compared with a sign", signed),
+            second: q2
+                .min(more_q2)
+                .but("the larger Q2", q2.max(more_q2))
+                .but("the first's Q2", q2)
+                .but("the second's Q2", more_q2),
             id: first.id.but("the second's id", second.id),
             scratch: first.scratch.but("no range joined", Scratch::NONE),
-            blocks: concat(&first.blocks, &second.blocks).but(
-                "the second's basic blocks first",
-                concat(&second.blocks, &first.blocks),
-            ),
+            blocks: concat(&first.blocks, &second.blocks)
+                .but(
+                    "the second's basic blocks first",
+                    concat(&second.blocks, &first.blocks),
+                )
+                .but(
+                    "no block armed after a join",
+                    disarmed(&concat(&first.blocks, &second.blocks)),
+                ),
             interrupters: concat(&first.interrupters, &second.interrupters).but(
                 "the second's interrupters first",
                 concat(&second.interrupters, &first.interrupters),

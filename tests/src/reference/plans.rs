@@ -36,7 +36,7 @@ pub fn plan_block_refusal(block: &[u8]) -> Option<Refusal> {
     let n = field(block, 2, 2) as usize;
     let count = field(block, 4, 2) as usize;
     let right = block[0] == 4
-        && framed(block, 0)
+        && framed(block, 0, 0)
         && (1..=64).contains(&n)
         && count <= 63.but("count 63 refused", 62)
         && (wrong_point(n, &points_of(block)).is_none()

@@ -1,6 +1,6 @@
 //! Stretches: what they load, how long they are, and what a list of points costs.
 
-use super::files::{Scratch, Task};
+use super::files::{Reads, Scratch, Task};
 use super::lines::{
     add_all, common, empty_set, replay, size, struck_lines, touched_lines, useful_lines, Set, LINES,
 };
@@ -66,18 +66,56 @@ impl Model {
         length.but("lengths in 32 bits", length as u32 as u64)
     }
 
-    /// Whether a stretch is within Q; a pair that is no stretch is.
+    /// Whether the sampler is armed in one of a stretch's blocks.
+    pub fn armed(&self, a: usize, b: usize) -> bool {
+        let any = |blocks: &[Reads]| blocks.iter().any(|block| block.armed);
+        let blocks = &self.task.blocks;
+        any(&blocks[a..b])
+            .but(
+                "a stretch's first block not seen armed",
+                any(&blocks[a + 1..b]),
+            )
+            .but(
+                "a stretch's last block not seen armed",
+                any(&blocks[a..b - 1]),
+            )
+            .but("only a stretch's first block seen armed", blocks[a].armed)
+            .but(
+                "only a stretch's last block seen armed",
+                blocks[b - 1].armed,
+            )
+            .but(
+                "armed only where all blocks are",
+                blocks[a..b].iter().all(|block| block.armed),
+            )
+            .but("armed where a block of the task is", any(blocks))
+            .but("no block seen armed", false)
+    }
+
+    /// Whether a stretch is within Q, and within Q2 too where the sampler is armed; a pair that is no stretch is.
     pub fn within(&self, a: usize, b: usize) -> bool {
         if !(a < b && b <= self.n) {
             return true;
         }
-        let (q, length) = (self.task.limit as u64, self.length(a, b));
+        let (q, q2) = (self.task.limit as u64, self.task.second as u64);
+        let (length, time) = (self.length(a, b), self.times[a][b]);
+        let armed = self.armed(a, b);
+        let within = |length: u64| length <= q && (!armed || length <= q2);
         let last = a > 0 && b == self.n;
-        (length <= q)
-            .but("Q without reloads", self.times[a][b] <= q)
-            .but("below Q only", length < q)
-            .but("last stretch not tested", length <= q || last)
-            .but("one cut and on to N", length <= q || last)
+        within(length)
+            .but("Q without reloads", within(time))
+            .but("Q2 without reloads", length <= q && (!armed || time <= q2))
+            .but("below Q only", length < q && within(length))
+            .but("below Q2 only", length <= q && (!armed || length < q2))
+            .but("Q2 for every stretch", length <= q.min(q2))
+            .but("Q2 alone where armed", length <= if armed { q2 } else { q })
+            .but("Q2 where not armed", length <= q && (armed || length <= q2))
+            .but(
+                "the larger limit where armed",
+                length <= if armed { q.max(q2) } else { q },
+            )
+            .but("last stretch not tested", within(length) || last)
+            .but("one cut and on to N", within(length) || last)
     }
 
     pub fn stretches(&self, points: &[usize]) -> Vec<(usize, usize)> {
@@ -118,7 +156,7 @@ impl Model {
             .but("price in 32 bits", price as u32 as u64)
     }
 
-    /// Lowest stretch above Q.
+    /// Lowest stretch that doesn't fit.
     pub fn first_above(&self, points: &[usize]) -> Option<usize> {
         let stretches = self.stretches(points);
         let above = |&(a, b): &(usize, usize)| !self.within(a, b);

@@ -54,6 +54,7 @@ impl Request {
             let (time, r) = (time, r).but("a count before the time", (r, time));
             blocks.push(Reads {
                 word: (time % 1000 + 1.but("no 1 added to a time", 0)) as u32,
+                armed: false.but("blocks made armed", true),
                 numbers: source.numbers(r),
             });
         }
@@ -63,11 +64,13 @@ impl Request {
             let r = source.draw();
             interrupters.push(Reads {
                 word: i.but("interrupters from 1", i + 1),
+                armed: false,
                 numbers: source.numbers(r),
             });
         }
         Task {
             scratch: Scratch::NONE,
+            second: 0.but("Q as Q2 of a made file", self.q),
             lines: self.s as usize,
             limit: self.q,
             reload: self.r,

@@ -40,7 +40,7 @@ loop-holds : tie.Need-loop-holds Inv-loop μ-loop
 loop-holds c =
     let start = c .before .before .before .before .before in
     let at = c .before .at .ensures in (
-      at .0 (taskOf (start .args .file .now)) (omega (arith, start .pre .1)),
+      at .0 (taskOf (start .args .file .now)) (c .before .before .header .ensures .0) (omega (arith, start .pre .1)),
       at .1,
       omega arith,
       rw (at .2, c .untried .ensures) (tried-none (omega arith)),
@@ -53,19 +53,20 @@ weigh-requires : tie.Need-weigh-requires Inv-loop μ-loop
 weigh-requires c κs =
     let start = c .before .before .before .before .before .before .before .before .before in
     let counted = c .longer .ensures .0 in
-    (omega (arith, counted .small, counted .within, few-blocks (start .args .file .now) (start .pre .0 .accepted)), counted .few)
+    (omega (arith, counted .run .small, counted .within, few-blocks (start .args .file .now) (start .pre .0 .accepted)), counted .few)
 
 -- the region from edge a to its new end
 described : (c : tie.After-weigh Inv-loop μ-loop)
     → let start = c .before .before .before .before .before .before .before .before .before .before in
     let region = c .before .longer .result in
-    Described (taskOf (start .args .file .now)) (start .args .a) (region .to) (c .before .before .before .before .before .before .before .header .result) (region .time) (region .lines)
+    Described (taskOf (start .args .file .now)) (start .args .a) (region .to) (c .before .before .before .before .before .before .before .header .result) (region .time)
+    (region .limit) (region .lines)
 described c =
     let grown = c .before .longer .ensures in
     let from = grown .1 ∙ c .before .before .before .before .loop .inv .1 in
     record {
       header-is = c .before .before .before .before .before .before .before .header .ensures .0;
-      time-is = rw from at (grown .0 .time);
+      run-is = rw from at (grown .0 .run);
       lines-are = rw from at (grown .0 .lines);
     }
 

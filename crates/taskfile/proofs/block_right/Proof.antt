@@ -12,8 +12,12 @@ use Rattle.taskfile.proofs.block_right.Tie as tie
 block-at-requires : tie.Need-block-at-requires
 block-at-requires c κs = search needs
 
+armed-byte-requires : tie.Need-armed-byte-requires
+armed-byte-requires c κs = rw (c .before .block-at .ensures) (length-in _ _ (c .before .before .before .pre .1))
+
 entry-right-requires : tie.Need-entry-right-requires
-entry-right-requires c κs = (rw (c .before .block-at .ensures) (length-in _ _ (c .before .before .before .pre .1)), search needs)
+entry-right-requires c κs =
+    (rw (c .before .before .block-at .ensures) (length-in _ _ (c .before .before .before .before .pre .1)), search needs)
 
 entry-right-requires-2 : tie.Need-entry-right-requires-2
 entry-right-requires-2 c κs = (rw (c .before .block-at .ensures) (length-in _ _ (c .before .before .before .pre .1)), search needs)
@@ -21,8 +25,8 @@ entry-right-requires-2 c κs = (rw (c .before .block-at .ensures) (length-in _ _
 returns : tie.Need-returns
 unfolding blockRight
 returns c =
-    let args = c .before .before .before .before .args in
-    c .entry-right .ensures ∙ rw (c .before .before .block-at .ensures, le-leb (args .k) (counts (args .file .now) .blocks) (omega arith))
+    let args = c .before .before .before .before .before .args in
+    c .entry-right .ensures ∙ rw (c .before .armed-byte .ensures, c .before .before .before .block-at .ensures, le-leb (args .k) (counts (args .file .now) .blocks) (omega arith))
 
 returns-2 : tie.Need-returns-2
 unfolding blockRight
@@ -31,4 +35,4 @@ returns-2 c =
     c .entry-right2 .ensures ∙ rw (c .before .before .block-at .ensures, lt-leb (args .k) (counts (args .file .now) .blocks) (omega arith))
 
 pub block-right-spec : {M : Type 1} → statement M
-block-right-spec = tie.close (tie.spec block-at-requires entry-right-requires entry-right-requires-2 returns returns-2)
+block-right-spec = tie.close (tie.spec block-at-requires armed-byte-requires entry-right-requires entry-right-requires-2 returns returns-2)

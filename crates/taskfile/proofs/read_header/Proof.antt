@@ -23,6 +23,9 @@ u32-at-requires-4 c κs = search needs
 u32-at-requires-5 : tie.Need-u32-at-requires-5
 u32-at-requires-5 c κs = search needs
 
+u32-at-requires-6 : tie.Need-u32-at-requires-6
+u32-at-requires-6 c κs = search needs
+
 returns : tie.Need-returns
 unfolding headerOf
 returns c = cc
@@ -37,4 +40,5 @@ read-header-spec =
     u32-at-requires-3
     u32-at-requires-4
     u32-at-requires-5
+    u32-at-requires-6
     returns)

@@ -1,25 +1,23 @@
--- `regions::CountedRegion::at` meets its contract: no blocks have no time and load no line. Assumes nothing.
-use Prim.Native.Nat.{_-_, zero-le}
-use mathlib.Core.Path.{_≡_, refl, sym}
+-- `regions::CountedRegion::at` meets its contract: no blocks have no time and load no line, and Q counts for them. Assumes nothing.
+use Prim.Native.Nat.{zero-le}
+use mathlib.Core.Path.{refl, sym, subst}
 use native.Mathlib.Nat.{le-refl}
-use native.Mathlib.Omega.{arith}
-use Rattle.model.specs.Regions.{timeAfter}
 use Rattle.model.proofs.Regions.{region-none}
+use Rattle.model.specs.declared.Header.{Header}
+use Rattle.regions.specs.Measures.{RunBetween}
+use Rattle.regions.proofs.Runs.{run-none}
 use Rattle.regions.proofs.CountedRegion.at.Statement.{statement}
 use Rattle.regions.proofs.CountedRegion.at.Tie as tie
 
 returns : tie.Need-returns
-unfolding timeAfter
 returns c =
-    let a = c .args .a in
-    let none : a - a ≡ 0 = omega arith in (
-      λ t h. record {
+    let a = c .args .a in (
+      λ t e h. record {
         rising = le-refl a;
         within = h;
         lines = sym (region-none t a);
         few = zero-le;
-        time = rw none refl;
-        small = zero-le;
+        run = subst (λ (header : Header). RunBetween t a a 0 (header .limit)) (sym e) (run-none t a);
       },
       refl,
       refl,

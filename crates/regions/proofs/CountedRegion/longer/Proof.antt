@@ -1,5 +1,5 @@
--- `regions::CountedRegion::longer` meets its contract: the lines grow by those that the region loads first in the next block, and the times by its
--- time. At most 64 times of 32 bits fit. Assumes nothing.
+-- `regions::CountedRegion::longer` meets its contract: the lines grow by those that the region loads first in the next block, and the run of
+-- blocks by that block. At most 64 times of 32 bits fit. Assumes nothing.
 use Prim.Native.Nat.{_+_, _-_, _*_, _≤_, _<_}
 use mathlib.Core.Path.{_≡_, refl, sym, ap₂, _∙_}
 use native.Mathlib.Numerals.{add-one}
@@ -10,7 +10,7 @@ use Rattle.model.specs.Regions.{regionLines}
 use Rattle.model.proofs.Regions.{lines-region, region-longer}
 use Rattle.taskfile.specs.File.{taskOf}
 use Rattle.taskfile.proofs.Accepted.{few-blocks}
-use Rattle.regions.proofs.Runs.{time-more}
+use Rattle.regions.proofs.Runs.{run-more}
 use Rattle.regions.proofs.CountedRegion.longer.Statement.{statement}
 use Rattle.regions.proofs.CountedRegion.longer.Tie as tie
 
@@ -56,11 +56,23 @@ cast-time : tie.Need-cast-time
 cast-time c = search needs
 
 add-time : tie.Need-add-time
-add-time c = omega (arith, below (c .before .before .before .before))
+add-time c = let start = c .before .before .before .before in omega (arith, below start, start .pre .1 .run .small)
+
+armed-requires : tie.Need-armed-requires
+armed-requires c κs = search needs
+
+header-requires : tie.Need-header-requires
+header-requires c κs = search needs
+
+limit-with-requires : tie.Need-limit-with-requires
+limit-with-requires c κs = search needs
 
 returns : tie.Need-returns
 returns c =
-    let start = c .before .before .before .before in
+    let header = c .before in
+    let armed = header .before in
+    let time = armed .before in
+    let start = time .before .before .before .before in
     let s = start .args .self in
     let counted = start .pre .1 in
     let back : s .to + 1 - 1 ≡ s .to = omega arith in (
@@ -69,8 +81,9 @@ returns c =
         within = omega (arith, start .pre .2);
         lines = lines-are start;
         few = few start;
-        time = ap₂ _+_ (counted .time) (rw back at (c .time .ensures)) ∙ sym (time-more (s .from) (s .to) (counted .rising) (taskOf (start .args .file .now)));
-        small = omega (arith, counted .small, counted .rising);
+        run = run-more (taskOf (start .args .file .now)) (s .from) (s .to) (s .time) (time .time .result) (s .limit) (c .limit-with .result)
+            (armed .armed .result) (header .header .result) (counted .rising) (counted .run) (rw back at (time .time .ensures)) (omega arith)
+            (rw back at (armed .armed .ensures)) (header .header .ensures .0) (c .limit-with .ensures);
       },
       refl,
       refl,
@@ -89,4 +102,7 @@ longer-spec =
     time-requires
     cast-time
     add-time
+    armed-requires
+    header-requires
+    limit-with-requires
     returns)

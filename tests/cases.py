@@ -83,7 +83,7 @@ class Task:
         return all(self.length(a, b) <= limit for limit in limits)
 
     def price(self, points):
-        """(lines, cost), or a refusal as text."""
+        """(lines, cost, each preempter's charge), or a refusal as text."""
         before = 0
         for i, p in enumerate(points):
             if not before < p < self.n:
@@ -95,7 +95,12 @@ class Task:
             if not self.fits(a, b):
                 return f"refused 8 at {i}"
         lines = sum(len(self.loaded(a, b)) for a, b in regions)
-        return lines, self.r * lines
+        touched = [self.lines(reads) for _, reads in self.preempters]
+        charges = [0] * len(touched)
+        for a, b in regions:
+            for c in self.loaded(a, b):
+                charges[[c in t for t in touched].index(True)] += 1
+        return lines, self.r * lines, charges
 
     def plan(self):
         """The first list of least cost, or None. Python orders lists as item 1 does: from the front, and a list before those it begins."""
@@ -114,6 +119,12 @@ class Task:
 def seven(q, blocks=None, first=0, count=0, preempter=(1, [4, 1])):
     blocks = blocks or [(20, [0, 1]), (20, [2]), (20, [0]), (20, [5, 0])]
     return Task(4, q, 10, 7, blocks, [preempter], first, count)
+
+
+def charged_seven(*reads):
+    """File Seven at Q 60 with preempters that read these numbers; their ids are 71, 72 and so on."""
+    blocks = seven(60).blocks
+    return Task(4, 60, 10, 7, blocks, [(71 + i, numbers) for i, numbers in enumerate(reads)])
 
 
 def armed_seven(second, armed):
@@ -303,6 +314,11 @@ def planner_tasks():
         ("seven-scratch", seven(60, first=0, count=1)),  # number 0 bypasses the cache
         ("seven-scratch-4", seven(60, first=4, count=1)),  # 4 does, which the preempter reads
         ("seven-scratch-4-other", seven(60, first=4, count=1, preempter=(0, [4, 9, 4]))),  # line 1, as seven-scratch-4's
+        ("charged-1-then-4-1", charged_seven([1], [4, 1])),  # line 0 is reloaded, which 0, 4 and 8 touch
+        ("charged-4-then-4-1", charged_seven([4], [4, 1])),
+        ("charged-third", charged_seven([], [3], [8], [0])),
+        ("charged-4-then-1", charged_seven([4], [1])),  # the same lines together as the next, and other charges
+        ("charged-1-then-4", charged_seven([1], [4])),
         *((f"seven-armed-{name}", armed_seven(second, armed)) for name, second, armed in ARMED),
         ("one-60", seven(60, lone)),
         ("one-59", seven(59, lone)),
@@ -339,6 +355,10 @@ def priced(price):
     return price if isinstance(price, str) else f"lines {price[0]} cost {price[1]}"
 
 
+def charged(price):
+    return priced(price) if isinstance(price, str) else f"{priced(price)} charges {words(price[2])}"
+
+
 def plan_line(task):
     points = task.plan()
     if points is None:
@@ -365,7 +385,7 @@ def task_lines(name, task):
         pairs = [(a, b) for a in range(n) for b in range(a + 1, n + 1)]
         lines += [useful_line(task, k) for k in range(n + 2)]
         lines += [region_line(task, a, b) for a, b in pairs + [(1, 1), (2, 1), (0, n + 1)]]
-        lines += [f"list {words(ps)} {priced(task.price(ps))}" for ps in LISTS]
+        lines += [f"list {words(ps)} {charged(task.price(ps))}" for ps in LISTS]
     return "".join(line + "\n" for line in lines)
 
 
@@ -397,6 +417,21 @@ def write_planner_cases():
     write("planner_cases", [(name, task.file()) for name, task in tasks], [name for name, _ in tasks], lines.encode())
 
 
+def write_price():
+    folder = os.path.join(ROOT, "price")
+    task, points = charged_seven([], [3], [8], [0]), [1, 2, 3]
+    lines, cost, charges = task.price(points)
+    edges = [0, *points, task.n]
+    printed = [f"task {task.ident} blocks {task.n} points {len(points)} lines {lines} cost {cost}"]
+    printed += [f"region {a} {b} length {task.length(a, b)}" for a, b in zip(edges, edges[1:])]
+    printed += [f"preempter {i} id {ident} lines {charge}" for i, ((ident, _), charge) in enumerate(zip(task.preempters, charges))]
+    with open(os.path.join(folder, "stdin"), "wb") as out:
+        out.write(task.file())
+    for name, lines in [("args", points), ("stdout", printed)]:
+        with open(os.path.join(folder, name), "w") as out:
+            out.write("".join(f"{line}\n" for line in lines))
+
+
 def write_join():
     files = [(name, task.file()) for name, task in joined_tasks()]
     write("join", files, ["ticket", "archive"], dict(files)["ticket-archive"])
@@ -405,4 +440,5 @@ def write_join():
 if __name__ == "__main__":
     write_taskfile_cases()
     write_planner_cases()
+    write_price()
     write_join()

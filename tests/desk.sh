@@ -73,13 +73,26 @@ writes() {
     printf '%s\nshould write the bytes of %s\n' "$*" "$right"
 }
 
-# alike FILE OTHER PROGRAM ARGUMENT..: on both files, the program prints the same lines, and nothing on standard error
+# prices FILE LINES CHARGES POINT..: of these points price prints these lines, and then one for each preempter, "I id X lines L"
+prices() {
+    file=$1 lines=$2 charges=$3
+    shift 3
+    prints "$file" "$lines
+$(printf '%s\n' "$charges" | sed 's/^/preempter /')" price "$@"
+}
+
+# alike FILE OTHER PROGRAM ARGUMENT..: on both files, the program prints the same lines but for those of the preempters, and nothing on standard error
 alike() {
     one=$1 other=$2
     shift 2
-    printed=$(runs "$@" <"$one" 2>"$errors")
+    printed=$(runs "$@" <"$one" 2>"$errors" | grep -v '^preempter ')
     [ -n "$printed" ] || { failed=1; printf '%s < %s\nprinted nothing\n' "$*" "$one"; }
-    prints "$other" "$printed" "$@"
+    [ ! -s "$errors" ] || { failed=1; cat "$errors"; }
+    again=$(runs "$@" <"$other" 2>"$errors" | grep -v '^preempter ')
+    [ "$again" = "$printed" ] && [ ! -s "$errors" ] && return
+    failed=1
+    printf '%s < %s\nshould print\n%s\nand printed\n%s\n' "$*" "$other" "$printed" "$again"
+    cat "$errors"
 }
 
 # File Seven
@@ -103,14 +116,14 @@ prints $seven-70 'task 7 blocks 4 points 1 lines 1 cost 10
 region 0 1 length 20
 region 1 4 length 70' plan
 prints $seven-60 "$at_1_2" plan
-prints $seven-60 "$at_1_2" price 1 2
-prints $seven-60 "$at_3" price 3
-prints $seven-60 "$at_3" price 003
+prices $seven-60 "$at_1_2" '0 id 1 lines 1' 1 2
+prices $seven-60 "$at_3" '0 id 1 lines 1' 3
+prices $seven-60 "$at_3" '0 id 1 lines 1' 003
 prints $seven-40 "$at_1_2_3" plan
-prints $seven-40 "$at_2_3" price 2 3
-prints $seven-40 "$at_1_2_3" price 1 2 3
+prices $seven-40 "$at_2_3" '0 id 1 lines 2' 2 3
+prices $seven-40 "$at_1_2_3" '0 id 1 lines 2' 1 2 3
 prints $seven-30 "$at_1_2_3" plan
-prints $seven-30 "$at_1_2_3" price 1 2 3
+prices $seven-30 "$at_1_2_3" '0 id 1 lines 2' 1 2 3
 prints $seven-29 'refused 6 at 0' plan
 prints $seven-29 'refused 8 at 2' price 1 2 3
 prints $seven-60 'refused 8 at 1' price 1
@@ -119,13 +132,30 @@ prints $seven-60 'refused 7 at 1' price 2 2
 prints $seven-60 'refused 7 at 0' price 0
 prints $seven-60 'refused 7 at 0' price 65535
 
+# each preempter's charge: a line that is loaded is charged to the first that touches it
+charged=crates/planner_cases/data/charged
+prices $charged-1-then-4-1 "$at_1_2_3" '0 id 71 lines 0
+1 id 72 lines 2' 1 2 3
+prices $charged-4-then-4-1 "$at_1_2_3" '0 id 71 lines 2
+1 id 72 lines 0' 1 2 3
+prices $charged-third "$at_1_2_3" '0 id 71 lines 0
+1 id 72 lines 0
+2 id 73 lines 2
+3 id 74 lines 0' 1 2 3
+prices $charged-4-then-1 "$at_1_2_3" '0 id 71 lines 2
+1 id 72 lines 0' 1 2 3
+prices $charged-1-then-4 "$at_1_2_3" '0 id 71 lines 0
+1 id 72 lines 2' 1 2 3
+prints $charged-third "$at_1_2" plan
+prints $charged-third 'refused 8 at 1' price 1
+
 # File Seven at Q 60 with armed blocks and Q2
 prints $seven-armed-none "$at_1_2" plan
 prints $seven-armed-1 "$at_1_2" plan
 prints $seven-armed-1-19 'refused 6 at 0' plan
 prints $seven-armed-1-19 'refused 8 at 0' price 1 2
 prints $seven-armed-3 "$at_1_2_3" plan
-prints $seven-armed-3 "$at_2_3" price 2 3
+prices $seven-armed-3 "$at_2_3" '0 id 1 lines 2' 2 3
 prints $seven-armed-3-29 'refused 6 at 0' plan
 prints $seven-armed-3-50 "$at_1_2" plan
 prints $seven-armed-4 "$at_3" plan
@@ -134,7 +164,7 @@ prints $seven-armed-4-50 "$at_1_2" plan
 prints $seven-armed-2-and-3 "$at_1_2_3" plan
 prints $seven-armed-all-39 "$at_1_2_3" plan
 prints $seven-armed-all-39 'refused 8 at 0' price 2 3
-prints $seven-armed-all-40 "$at_2_3" price 2 3
+prices $seven-armed-all-40 "$at_2_3" '0 id 1 lines 2' 2 3
 prints $seven-armed-all-40 "$at_1_2_3" plan
 prints $seven-armed-all-70 'refused 8 at 1' price 1
 
@@ -326,7 +356,8 @@ region 5 6 length 20
 region 6 7 length 30
 region 7 8 length 30'
 prints "$made" "$at_all" plan
-prints "$made" "$at_all" price 1 2 3 4 5 6 7
+prices "$made" "$at_all" '0 id 1 lines 5
+1 id 1 lines 0' 1 2 3 4 5 6 7
 prints "$made" 'refused 8 at 3' price 1 2 3
 prints "$made" 'refused 7 at 1' price 4 8
 prints "$made" 'lines 0' useful 1

@@ -22,10 +22,7 @@ fn all_zero(bytes: &[u8]) -> bool {
 }
 
 pub fn refusal(number: u32, place: usize) -> Refusal {
-    Refusal {
-        number,
-        place,
-    }
+    Refusal { number, place }
 }
 
 /// m mod S by one reciprocal; no line in the range, which one comparison tells.
@@ -75,7 +72,7 @@ pub struct Task<'a> {
     pub lines: Lines,
     limit: u64,
     second: u64,
-    reload: u64,
+    pub reload: u64,
     id: u32,
     blocks: &'a [u8],
     preempters: &'a [u8],
@@ -86,7 +83,7 @@ impl Task<'_> {
         self.blocks.chunks_exact(BLOCK)
     }
 
-    pub fn preempters(&self) -> impl Iterator<Item = &[u8]> {
+    pub fn preempters(&self) -> impl DoubleEndedIterator<Item = &[u8]> + ExactSizeIterator {
         self.preempters.chunks_exact(BLOCK)
     }
 
@@ -264,11 +261,11 @@ fn choose<M: Method>(task: &Task, method: &M) -> Option<(Ends, u64)> {
     Some((ends, rests[0].lines))
 }
 
-fn price_list<M: Method>(task: &Task, ends: &Ends) -> Result<u64, Refusal> {
-    let sizes = M::regions(task, ends.all());
+/// The lines of a list whose regions end at these edges and have so many lines.
+pub fn weigh(task: &Task, ends: &[u16], sizes: [u64; MOST_BASIC]) -> Result<u64, Refusal> {
     let mut whole = 0;
     let mut a = 0;
-    for (i, (&b, lines)) in ends.all().iter().zip(sizes).enumerate() {
+    for (i, (&b, lines)) in ends.iter().zip(sizes).enumerate() {
         let b = b as usize;
         let limit = (a + 1..=b).map(|k| task.limit_in(k)).min();
         if Some(task.length(a, b, lines)) > limit {
@@ -346,7 +343,7 @@ pub fn price<M: Method>(file: &[u8], first: &[u8], block: &mut [u8]) -> Returned
         return Err(refusal(7, i));
     }
     ends.push(task.n);
-    let lines = price_list::<M>(&task, &ends)?;
+    let lines = weigh(&task, ends.all(), M::regions(&task, ends.all()))?;
     store(&task, ends.points(), lines, block);
     Ok(())
 }

@@ -1,6 +1,7 @@
 //! The files that are timed, the work of the planner's calls written for speed in plain Rust, and medians.
 
 pub mod by_line;
+pub mod charges;
 pub mod checks;
 pub mod counts;
 pub mod fast;

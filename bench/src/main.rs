@@ -8,7 +8,7 @@ use bench::files::{
     any, any_points, drawn, growing, planned, reread, rotated, seven, Again, Rng, Shape, LARGEST,
 };
 use bench::timing::{keep, medians};
-use bench::{fast, generate, join, regions, replays, searches};
+use bench::{charges, fast, generate, join, regions, replays, searches};
 use calls::Returned;
 use std::hint::black_box;
 
@@ -82,6 +82,14 @@ fn word(bytes: &[u8], at: usize) -> u64 {
     u64::from_le_bytes(bytes[at..at + 8].try_into().unwrap())
 }
 
+/// The points of a plan block.
+fn list_of(block: &[u8]) -> Vec<u16> {
+    block[20..][..2 * block[4] as usize]
+        .chunks_exact(2)
+        .map(|p| u16::from_le_bytes([p[0], p[1]]))
+        .collect()
+}
+
 /// Holds both methods in Rust to the planner on random files, with refusals.
 fn hold_random() {
     for seed in 0..TRIED {
@@ -107,9 +115,14 @@ fn hold_random() {
             answer::<72>(|out| calls::region(&file, a, b, out)),
             answer(|out| regions::region(&file, a, b, out)),
         ];
+        let list = list_of(&points);
+        let charged = [
+            answer::<272>(|out| calls::charged_price(&file, &list, out)),
+            answer(|out| charges::price(&file, &list, out)),
+        ];
         let name = format!("the random file of seed {seed}");
         assert!(
-            are_alike(&planned) && are_alike(&priced) && are_alike(&regions),
+            are_alike(&planned) && are_alike(&priced) && are_alike(&regions) && are_alike(&charged),
             "{name}: answers differ"
         );
     }
@@ -174,6 +187,47 @@ fn plan_row(name: &str, files: &[Vec<u8>]) {
         ("by line", plan[2]),
     ];
     say_checks(files, "planning", &of_plans);
+}
+
+/// Pricing the plans' points with charges, by the planner's own call.
+fn charge_row(name: &str, files: &[Vec<u8>]) {
+    let mut lists = Vec::new();
+    let mut most = Vec::new();
+    for file in files {
+        let (returned, plan) = answer::<512>(|out| calls::plan(file, out));
+        assert!(returned == Ok(()), "{name}: no plan");
+        let list = list_of(&plan);
+        let charged = [
+            answer::<272>(|out| calls::charged_price(file, &list, out)),
+            answer(|out| charges::price(file, &list, out)),
+        ];
+        hold_alike(name, &charged);
+        most.push((2..34).map(|i| word(&charged[0].1, 8 * i)).max().unwrap());
+        lists.push(list);
+    }
+    println!(
+        "{name}: {}, {} points, a charge of at most {}",
+        blocks_of(files),
+        least_to_most(lists.iter().map(|list| list.len() as u64)),
+        least_to_most(most.into_iter())
+    );
+
+    let mut out = [[0; 272]; 2];
+    let [ours, plain] = black_box(&mut out);
+    let charged = medians(
+        ROUNDS,
+        files.len(),
+        [
+            &mut |i| keep(calls::charged_price(&files[i], &lists[i], ours)),
+            &mut |i| keep(charges::price(&files[i], &lists[i], plain)),
+        ],
+    );
+    say("charge", charged[0], &[("plain", charged[1])]);
+    say_checks(
+        files,
+        "a price with charges",
+        &[("planner", charged[0]), ("plain", charged[1])],
+    );
 }
 
 /// The loaded lines and the length of a region.
@@ -394,6 +448,9 @@ fn main() {
     }
     let seven = [seven()];
     let largest = rotated(|seed| drawn(&LARGEST, seed));
+    println!("a price with charges; plain: the same one walk");
+    charge_row("largest file", &largest);
+    charge_row("File Seven", &seven);
     println!("a region; plain: one walk up to its first edge, and one over its own blocks");
     region_row("largest file, short region", &largest, 32, 33);
     region_row("largest file, long region", &largest, 1, 64);

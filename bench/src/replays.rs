@@ -72,7 +72,7 @@ fn by_two_caches(task: &Task, points: &[u16]) -> [u64; 2] {
     misses
 }
 
-fn wrong_point(n: usize, points: &[u16]) -> Option<usize> {
+pub fn wrong_point(n: usize, points: &[u16]) -> Option<usize> {
     let mut last = 0;
     points.iter().position(|&p| {
         let wrong = p <= last || p as usize >= n;

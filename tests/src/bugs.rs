@@ -36,8 +36,9 @@ pub fn with<T>(name: &'static str, work: impl FnOnce() -> T) -> T {
 }
 
 /// The sources that ask for switches.
-const ASKING: [&str; 9] = [
+const ASKING: [&str; 10] = [
     include_str!("reference/calls.rs"),
+    include_str!("reference/charges.rs"),
     include_str!("reference/choice.rs"),
     include_str!("reference/files.rs"),
     include_str!("reference/joining.rs"),

@@ -2,7 +2,7 @@
 
 pub struct Counts(Vec<(String, u64)>);
 
-const SHAPES: [&str; 98] = [
+const SHAPES: [&str; 108] = [
     "2 above block 0",
     "5 in a basic block",
     "5 in an interrupter",
@@ -75,6 +75,16 @@ const SHAPES: [&str; 98] = [
     "97 blocks made",
     "10 before 9",
     "others, same lines",
+    "each its own lines",
+    "charged, M 0",
+    "charged, M 1",
+    "charged, M 32",
+    "reads nothing",
+    "several touch a line",
+    "charged to several",
+    "charged twice",
+    "charge above 255",
+    "charge 31",
     "Q of the first",
     "Q of the second",
     "Q2 of the first",
@@ -117,6 +127,14 @@ impl Counts {
             ("useful", &["0", "1", "2", "3", "4", "5", "7", "9"][..]),
             ("next", &["0", "1", "2", "3", "4", "5", "7", "9"][..]),
             ("region", &["0", "1", "2", "3", "4", "5", "7", "9"][..]),
+            (
+                "charged",
+                &["0", "1", "2", "3", "4", "5", "7", "8", "9"][..],
+            ),
+            (
+                "charged plan",
+                &["0", "1", "2", "3", "4", "5", "6", "9"][..],
+            ),
             ("replay", &["0", "1", "2", "3", "4", "5", "7", "9"][..]),
             ("generate", &["0", "9", "10"][..]),
             (

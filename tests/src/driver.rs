@@ -33,6 +33,8 @@ impl Planner {
             Call::Useful(k) => calls::useful(file, k, out),
             Call::NextRead(line, k) => calls::next_read(file, line, k, out),
             Call::Region(a, b) => calls::region(file, a, b, out),
+            Call::Charged(list) => calls::charged_price(file, list, out),
+            Call::ChargedPlan => calls::charged_plan(file, out),
             Call::Replay(list) => calls::replay(file, list, out),
             Call::Generate(Request {
                 seed,
@@ -102,6 +104,11 @@ impl Driver {
         self.made.bytes().len()
     }
 
+    fn lend_list(&mut self, rng: &mut Rng, list: &[u16]) {
+        let bytes: Vec<u8> = list.iter().flat_map(|p| p.to_ne_bytes()).collect();
+        self.other.lend(&bytes, even_side(rng, list.len()));
+    }
+
     /// Makes a call, or says which byte beside the output changed.
     fn ask(&mut self, rng: &mut Rng, call: &Call, out_len: usize) -> Result<Left, String> {
         let call = match *call {
@@ -109,9 +116,12 @@ impl Driver {
                 self.other.lend(points, random_side(rng));
                 Call::Price(self.other.lent())
             }
+            Call::Charged(list) => {
+                self.lend_list(rng, list);
+                Call::Charged(self.other.lent_numbers())
+            }
             Call::Replay(list) => {
-                let bytes: Vec<u8> = list.iter().flat_map(|p| p.to_ne_bytes()).collect();
-                self.other.lend(&bytes, even_side(rng, list.len()));
+                self.lend_list(rng, list);
                 Call::Replay(self.other.lent_numbers())
             }
             Call::Join(second) => {
@@ -132,7 +142,7 @@ impl Driver {
         let before = bytes.to_vec();
         self.calls += 1;
         let points = match call {
-            Call::Price(_) | Call::Replay(_) => self.other.lent(),
+            Call::Price(_) | Call::Charged(_) | Call::Replay(_) => self.other.lent(),
             _ => &[],
         };
         watch::call(said(&call, out_len), points);
@@ -224,6 +234,8 @@ fn said(call: &Call, out_len: usize) -> String {
         Call::Useful(k) => format!("probe_useful, k {k}"),
         Call::NextRead(line, k) => format!("probe_next_read, line {line} k {k}"),
         Call::Region(a, b) => format!("probe_region, a {a} b {b}"),
+        Call::Charged(list) => format!("probe_price, {} points", list.len()),
+        Call::ChargedPlan => "probe_plan".to_string(),
         Call::Replay(list) => format!("probe_replay, {} points", list.len()),
         Call::Generate(request) => format!("probe_generate, {request:?}"),
         Call::Join(second) => format!("probe_join, second of {}", second.len()),

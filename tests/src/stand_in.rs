@@ -115,6 +115,7 @@ fn touch(file: &[u8], call: &Call, out: &mut [u8]) {
     let (list, bytes): (&[u16], &[u8]) = match *call {
         Call::Price(points) => (&[], points),
         Call::Replay(list) => (list, &[]),
+        Call::Charged(list) => (list, &[]),
         _ => (&[], &[]),
     };
     let second: &[u8] = match *call {
@@ -132,8 +133,8 @@ fn touch(file: &[u8], call: &Call, out: &mut [u8]) {
     );
     beyond(
         list,
-        bug("a replay's points read beyond their end"),
-        bug("a replay's points written"),
+        bug("a list's points read beyond their end"),
+        bug("a list's points written"),
     );
     beyond(
         second,

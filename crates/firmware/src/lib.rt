@@ -19,7 +19,7 @@ pub extern "C" fn preempt_plan(file: &[u8], block: &mut [u8]) -> u32
     let Verdict::Accepted = output else {
         return returned(output, 0);
     };
-    let least = planner::plan(file);
+    let least = planner::least_plan(file);
     let verdict = least.verdict;
     let plan = least.plan;
     leave(verdict, answers::verdict_place(verdict), plan, block)

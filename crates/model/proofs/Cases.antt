@@ -1,23 +1,25 @@
 -- Every case of `cases` holds: a test that antt computes over the whole list, and one law that takes a passed test to the claim. A claim about
 -- every list of points is tested on the enumeration of all of them. Assumes nothing.
-use Prim.Native.Nat.{ℕ, zero, suc, _<_, _≤_}
+use Prim.Native.Nat.{ℕ, zero, suc, _-_, _<_, _≤_}
 use mathlib.Core.Path.{_≡_, refl, sym, ap, _∙_}
 use mathlib.Core.Bool.{Bool, true, false, not, _&&_, _||_, Bool·beq, false≢true, and-eq-true-iff}
 use mathlib.Core.Logic.{_⊎_, inl, inr, by-cases}
-use mathlib.Core.List.{List, [], _∷_, List·Memᴰ, List·Memᴰ·head, List·Memᴰ·tail}
+use mathlib.Core.List.{List, [], _∷_, _++_, List·Memᴰ, List·Memᴰ·head, List·Memᴰ·tail}
 use native.Mathlib.Omega.{arith}
 use native.Mathlib.Decide.{ℕ-discrete, decLe}
 use native.Mathlib.Nat.{le-of-eq, le-of-lt, le-trans}
 use lib.Dec.{eqb, ltb, leb}
+use lib.ListN.{length, replicate}
 use borrow.Author.Tests.{eqb-true, le-leb, ltb-true, not-true}
-use Rattle.model.specs.Sets.{Lines, listed, countBelow}
+use Rattle.model.specs.Sets.{Lines, listed, countBelow, table}
 use Rattle.model.specs.Task.{Task, blockCount}
 use Rattle.model.specs.Lines.{bypasses, lineOf, onLine, lastRead, firstRead, anyRead, readsOf, preempterReads, blockAt, stateAfter, nextRead, lookedAt, readsLookedAt, asNext, useful, accessed, evicted}
-use Rattle.model.specs.Lists.{steps, regions, every, total, lowest, wellFormed, before, among, sameList, risingLists, allLists}
+use Rattle.model.specs.Lists.{steps, regions, every, total, lowest, lowestFrom, wellFormed, before, among, sameList, risingLists, allLists}
 use Rattle.model.specs.Regions.{unionAfter, timeAfter, loaded, regionLines, regionLength, armedAfter, regionFits, regionCost, lines, cost, fits, FirstBest, NoPlacementFits}
+use Rattle.model.specs.Charges.{touches, firstTouching, chargedTo, regionCharge, charge, charges}
 use Rattle.model.specs.Replay.{miss, fetch, misses, after, emptied, atEdge, walk, missesWith, missesAlone}
 use Rattle.model.specs.Answers.{accepted, pricing, number, place}
-use Rattle.model.specs.Cases.{Case, usefulAre, nextIs, evictedAre, loadedAre, lengthIs, bestAre, firstIs, fittingAre, noneFits, priced, refused, lineIs, onNoLine, replayed, RefusedBy, CaseHolds, cases}
+use Rattle.model.specs.Cases.{Case, usefulAre, nextIs, evictedAre, loadedAre, lengthIs, bestAre, firstIs, fittingAre, noneFits, priced, refused, lineIs, onNoLine, replayed, charged, RefusedBy, CaseHolds, cases}
 use Rattle.model.specs.Planning.{chosen, Planned}
 use Rattle.model.specs.Laws.{CasesHold}
 use Rattle.model.specs.declared.Mapping.{Mapping}
@@ -90,6 +92,7 @@ test (refused t ps n i) = refusedBy n i (pricing t ps)
 test (lineIs t m c) = sameMapping (lineOf t m) (Cached c)
 test (onNoLine t m) = sameMapping (lineOf t m) Uncached
 test (replayed t ps a b) = eqb (missesAlone t) a && eqb (missesWith t ps) b
+test (charged t ps cs) = sameList (charges t ps) (cs ++ replicate (32 - length cs) 0)
 
 everyCase : List Case → Bool
 everyCase [] = true
@@ -255,9 +258,10 @@ sound (onNoLine t m) h = lies-nowhere t m (same-mapping (lineOf t m) Uncached h)
 sound (replayed t ps a b) h =
     let both = and-eq-true-iff (eqb (missesAlone t) a) (eqb (missesWith t ps) b) .0 h in
     (eqb-true (missesAlone t) a (both .0), eqb-true (missesWith t ps) b (both .1))
+sound (charged t ps cs) h = same-list (charges t ps) (cs ++ replicate (32 - length cs) 0) h
 
 all-pass : everyCase cases ≡ true
-unfolding everyCase test agreeBelow everyList onAll exactly some ahead sameNext sameMapping refusedBy listed useful stateAfter nextRead lastRead firstRead lookedAt readsLookedAt readsOf bypasses lineOf onLine accessed anyRead blockAt evicted preempterReads loaded unionAfter regionLines countBelow regionLength timeAfter armedAfter regionFits regionCost every total lowest regions steps before among sameList risingLists miss fetch misses after emptied atEdge walk missesWith missesAlone
+unfolding everyCase test agreeBelow everyList onAll exactly some ahead sameNext sameMapping refusedBy listed useful stateAfter nextRead lastRead firstRead lookedAt readsLookedAt readsOf bypasses lineOf onLine accessed anyRead blockAt evicted preempterReads loaded unionAfter regionLines countBelow regionLength timeAfter armedAfter regionFits regionCost every total lowest regions steps before among sameList risingLists miss fetch misses after emptied atEdge walk missesWith missesAlone table lowestFrom touches firstTouching chargedTo regionCharge charge charges
 all-pass = refl
 
 held : (cs : List Case) → everyCase cs ≡ true → (c : Case) → List·Memᴰ c cs → CaseHolds c

@@ -9,6 +9,7 @@ pub mod Lowest
 pub mod Order
 pub mod Regions
 pub mod Loads
+pub mod Charges
 pub mod Places
 pub mod Replay
 pub mod Seen

@@ -1,7 +1,7 @@
 -- The words of a set of lines. `words` and `inWords` undo each other, so words that hold the same lines are equal.
 -- Assumes nothing.
 use mathlib.Core.Bool.{false}
-use mathlib.Core.List.{List, [], _∷_}
+use mathlib.Core.List.{List}
 use mathlib.Core.Path.{_≡_, refl, sym, ap, _∙_, fun-ext}
 use Prim.Native.Nat.{ℕ, zero, suc, _+_, _*_, _/_, _%_, _^_, _≤_, _<_}
 use native.Mathlib.Nat.{le-of-suc-le-suc, not-suc-le-zero, zero-add, add-zero, add-assoc, div-add-mod'}
@@ -13,7 +13,7 @@ use lib.Pow.{pow-pos}
 use lib.Seq.{ext-getD}
 use mir.Syntax.{w64}
 use mir.Val.{Fits}
-use Rattle.model.specs.Sets.{Lines, size, countBelow, digit, word, words, inWords}
+use Rattle.model.specs.Sets.{Lines, size, countBelow, table, digit, word, words, inWords}
 use Rattle.model.specs.Laws.{WordsHold, SizeIsOnes, oneBits}
 use Rattle.model.proofs.Digits.{digit-of-zero, digit-digits, digits-agree, digits-digit, digits-lt, count-add, count-agree, count-ones}
 
@@ -30,17 +30,13 @@ word-lt : (s : Lines) (k : ℕ) → word s k < 2 ^ 64
 unfolding word
 word-lt s k = digits-lt 64 (λ j. s (k * 64 + j))
 
--- the first n values of f
-table : ℕ → (ℕ → ℕ) → List ℕ
-table zero f = []
-table (suc n) f = f 0 ∷ table n (λ k. f (suc k))
-
-table-length : (n : ℕ) (f : ℕ → ℕ) → length (table n f) ≡ n
+-- the first n values of a function
+pub table-length : (n : ℕ) (f : ℕ → ℕ) → length (table n f) ≡ n
 unfolding table
 table-length zero f = refl
 table-length (suc n) f = ap suc (table-length n (λ k. f (suc k)))
 
-table-at : (n : ℕ) (f : ℕ → ℕ) (k : ℕ) → k < n → getD (table n f) k 0 ≡ f k
+pub table-at : (n : ℕ) (f : ℕ → ℕ) (k : ℕ) → k < n → getD (table n f) k 0 ≡ f k
 unfolding table
 table-at zero f k h = absurd (not-suc-le-zero h)
 table-at (suc n) f zero h = refl

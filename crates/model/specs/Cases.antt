@@ -1,15 +1,17 @@
 -- Document 01's cases marked P as document 02 has changed them, two more of its rules on small tasks, document 02's first five items and
--- its item 9, and document 004's appendix A. A case is a claim on a task; a claim about lists is one about every list. Assumes nothing.
-use Prim.Native.Nat.{ℕ, _<_}
+-- its items 9 and 10, and document 004's appendix A. A case is a claim on a task; a claim about lists is one about every list. Assumes nothing.
+use Prim.Native.Nat.{ℕ, _-_, _<_}
 use mathlib.Core.Path.{_≡_}
 use mathlib.Core.Bool.{true, false, _&&_}
-use mathlib.Core.List.{List, [], _∷_}
+use mathlib.Core.List.{List, [], _∷_, _++_, map}
 use lib.Dec.{eqb}
+use lib.ListN.{length, replicate}
 use Rattle.model.specs.Sets.{Lines, listed}
-use Rattle.model.specs.Task.{Block, Preempter, Task, blockCount}
+use Rattle.model.specs.Task.{Block, Preempter, Task, blockCount, withPreempters}
 use Rattle.model.specs.Lines.{onLine, nextRead, readsLookedAt, asNext, useful, evicted}
 use Rattle.model.specs.Lists.{wellFormed, among}
 use Rattle.model.specs.Regions.{loaded, regionLength, lines, cost, fits, BestList, FirstBest, NoPlacementFits}
+use Rattle.model.specs.Charges.{charges}
 use Rattle.model.specs.Replay.{missesAlone, missesWith}
 use Rattle.model.specs.Answers.{pricing, number, place}
 use Rattle.model.specs.Planning.{chosen, Planned}
@@ -36,6 +38,7 @@ pub data Case : Type 0 where
   lineIs : Task → ℕ → ℕ → Case  -- the line of a number
   onNoLine : Task → ℕ → Case  -- a number that lies on none
   replayed : Task → List ℕ → ℕ → ℕ → Case  -- the misses alone, and with these points
+  charged : Task → List ℕ → List ℕ → Case  -- the first charges of a list; the others are 0
 
 -- the set is just these lines
 abbrev pub Are : Lines → List ℕ → Type 0
@@ -61,6 +64,7 @@ CaseHolds (refused t ps n i) = RefusedBy n i (pricing t ps)
 CaseHolds (lineIs t m c) = (d : ℕ) → onLine t d m ≡ eqb d c
 CaseHolds (onNoLine t m) = (d : ℕ) → onLine t d m ≡ false
 CaseHolds (replayed t ps a b) = (missesAlone t ≡ a) × (missesWith t ps ≡ b)
+CaseHolds (charged t ps cs) = charges t ps ≡ cs ++ replicate (32 - length cs) 0
 
 abbrev pub block : ℕ → List ℕ → Block
 block time reads = record { time = time; armed = false; reads = reads }
@@ -95,6 +99,10 @@ armedSeven q2 armed = seven (header 4 60 10 0 q2) armed
 -- File Seven as document 01 has it
 abbrev pub fileSeven : ℕ → ℕ → Task
 fileSeven s q = scratchSeven s q 0
+
+-- File Seven at Q 60, with preempters that read these numbers
+abbrev pub sevenWith : List (List ℕ) → Task
+sevenWith reads = withPreempters (fileSeven 4 60) (map preempter reads)
 
 -- one basic block of 60 ticks
 abbrev pub oneBlock : ℕ → Task
@@ -196,6 +204,14 @@ cases =
     -- all armed: the smaller limit for all regions
     fittingAre (armedSeven 39 (1 ∷ 2 ∷ 3 ∷ 4 ∷ [])) ((1 ∷ 2 ∷ 3 ∷ []) ∷ []) ∷ priced (armedSeven 39 (1 ∷ 2 ∷ 3 ∷ 4 ∷ [])) (1 ∷ 2 ∷ 3 ∷ []) 2 20 ∷
     bestAre (armedSeven 40 (1 ∷ 2 ∷ 3 ∷ 4 ∷ [])) 20 ((1 ∷ 2 ∷ 3 ∷ []) ∷ (2 ∷ 3 ∷ []) ∷ []) ∷ firstIs (armedSeven 40 (1 ∷ 2 ∷ 3 ∷ 4 ∷ [])) (1 ∷ 2 ∷ 3 ∷ []) ∷
+    -- document 02, item 10: both reloads of 1, 2, 3 are of line 0, which number 4 touches, and so do 8 and 0; 1 touches line 1 alone
+    charged (sevenWith ((1 ∷ []) ∷ (4 ∷ 1 ∷ []) ∷ [])) (1 ∷ 2 ∷ 3 ∷ []) (0 ∷ 2 ∷ []) ∷
+    charged (sevenWith ((4 ∷ []) ∷ (4 ∷ 1 ∷ []) ∷ [])) (1 ∷ 2 ∷ 3 ∷ []) (2 ∷ 0 ∷ []) ∷
+    charged (sevenWith ([] ∷ (3 ∷ []) ∷ (8 ∷ []) ∷ (0 ∷ []) ∷ [])) (1 ∷ 2 ∷ 3 ∷ []) (0 ∷ 0 ∷ 2 ∷ 0 ∷ []) ∷
+    -- two preempters the other way round touch the same lines together, and the charges differ
+    evictedAre (sevenWith ((4 ∷ []) ∷ (1 ∷ []) ∷ [])) (0 ∷ 1 ∷ []) ∷ evictedAre (sevenWith ((1 ∷ []) ∷ (4 ∷ []) ∷ [])) (0 ∷ 1 ∷ []) ∷
+    charged (sevenWith ((4 ∷ []) ∷ (1 ∷ []) ∷ [])) (1 ∷ 2 ∷ 3 ∷ []) (2 ∷ 0 ∷ []) ∷
+    charged (sevenWith ((1 ∷ []) ∷ (4 ∷ []) ∷ [])) (1 ∷ 2 ∷ 3 ∷ []) (0 ∷ 2 ∷ []) ∷
     -- 004, figure 9: the useful lines of task 1
     usefulAre appendixA 1 (1 ∷ 2 ∷ []) ∷ usefulAre appendixA 2 (1 ∷ 2 ∷ 4 ∷ 8 ∷ []) ∷ usefulAre appendixA 3 (1 ∷ 2 ∷ 8 ∷ []) ∷
     usefulAre appendixA 4 (1 ∷ 2 ∷ 7 ∷ 8 ∷ []) ∷ usefulAre appendixA 5 (1 ∷ 2 ∷ 7 ∷ 8 ∷ []) ∷

@@ -7,12 +7,13 @@ use mathlib.Core.Logic.{_⊎_}
 use mathlib.Core.List.{List, [], _∷_, List·Memᴰ}
 use lib.Count.{ones}
 use lib.Dec.{eqb, leb}
-use lib.ListN.{take, drop}
+use lib.ListN.{getD, take, drop}
 use Rattle.model.specs.Sets.{Lines, size, words, inWords}
-use Rattle.model.specs.Task.{Task, blockCount, lineCount, secondLimit}
+use Rattle.model.specs.Task.{Task, blockCount, preempterCount, lineCount, secondLimit}
 use Rattle.model.specs.Lines.{lineOf, lastRead, firstRead, lookedAt, anyRead, sameBlock, readsOf, preempterReads, blockAt, stateAfter, nextRead, readsLookedAt, useful, accessed, evicted}
 use Rattle.model.specs.Lists.{wellFormed, before, FirstOfLeast, among, allLists}
 use Rattle.model.specs.Regions.{regionLength, regionFits, lines, cost}
+use Rattle.model.specs.Charges.{charges, sum}
 use Rattle.model.specs.Replay.{Cache, miss, fetch, missesAlone, missesWith}
 use Rattle.model.specs.Planning.{Planned}
 use Rattle.model.specs.Cases.{Case, CaseHolds, cases}
@@ -87,6 +88,14 @@ AllArmed =
 -- a list's price is R times its lines
 abbrev pub CostOfLines : Type 0
 CostOfLines = (t : Task) (ps : List ℕ) → cost t ps ≡ t .header .reload * lines t ps
+
+-- the charges of a list add up to its lines, whether it is well formed and fits or not (document 02, item 10); a file has at most 32 preempters
+abbrev pub ChargesAddUp : Type 0
+ChargesAddUp = (t : Task) → preempterCount t ≤ 32 → (ps : List ℕ) → sum (charges t ps) ≡ lines t ps
+
+-- and from index M on they are 0
+abbrev pub NoChargeFrom : Type 0
+NoChargeFrom = (t : Task) (ps : List ℕ) (i : ℕ) → preempterCount t ≤ i → getD (charges t ps) i 0 ≡ 0
 
 -- all lists of points, of which demand 3 speaks and which the cases try: every well-formed list, the empty one too, and no other
 abbrev pub Enumerated : Type 0

@@ -3,6 +3,7 @@ pub mod Task
 pub mod Lines
 pub mod Lists
 pub mod Regions
+pub mod Charges
 pub mod Replay
 pub mod Answers
 pub mod Planning

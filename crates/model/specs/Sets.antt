@@ -27,6 +27,11 @@ countBelow (suc n) s = countBelow n s + bit (s n)
 abbrev pub size : Lines → ℕ
 size s = countBelow 512 s
 
+-- the first n values of f
+unfoldable pub table : ℕ → (ℕ → ℕ) → List ℕ
+table zero f = []
+table (suc n) f = f 0 ∷ table n (λ k. f (suc k))
+
 -- digit j of a number, as a bit
 abbrev pub digit : ℕ → ℕ → Bool
 digit a j = eqb (a / 2 ^ j % 2) 1

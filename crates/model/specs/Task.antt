@@ -28,6 +28,10 @@ pub record Task : Type 0 where
 abbrev pub blockCount : Task → ℕ
 blockCount t = length (t .blocks)
 
+-- M, the number of preempters
+abbrev pub preempterCount : Task → ℕ
+preempterCount t = length (t .preempters)
+
 -- S, the number of cache lines
 abbrev pub lineCount : Task → ℕ
 lineCount t = t .header .«line_count»
@@ -39,6 +43,10 @@ secondLimit t = t .header .«second_limit»
 -- what stands for a block that a task has not
 abbrev pub noBlock : Block
 noBlock = record { time = 0; armed = false; reads = [] }
+
+-- what stands for a preempter that a task has not
+abbrev pub noPreempter : Preempter
+noPreempter = record { id = 0; reads = [] }
 
 -- the same task with other preempters
 abbrev pub withPreempters : Task → List Preempter → Task

@@ -1,2 +1,4 @@
 pub mod OneAnswer
 pub mod Edge
+pub mod Planned
+pub mod Charges

@@ -9,6 +9,7 @@ use Rattle.model.specs.Sets.{words}
 use Rattle.model.specs.Task.{blockCount}
 use Rattle.model.specs.Lines.{nextRead, readsLookedAt, asNext, useful}
 use Rattle.model.specs.Regions.{loaded, regionLength, lines, cost}
+use Rattle.model.specs.Charges.{charges, noCharges}
 use Rattle.model.specs.Answers.{onAccepted, andThen, whose, placeOf, pricing}
 use Rattle.model.specs.Planning.{chosen, planFor, noPlan, Planned}
 use Rattle.model.specs.declared.Input.{Input}
@@ -62,6 +63,10 @@ priceLines file ps = onAccepted (priceVerdict file ps) (lines (taskOf file) ps) 
 unfoldable pub priceCost : List ℕ → List ℕ → ℕ
 priceCost file ps = onAccepted (priceVerdict file ps) (cost (taskOf file) ps) 0
 
+-- what each preempter is charged of the lines (document 02, item 10)
+unfoldable pub priceCharges : List ℕ → List ℕ → List ℕ
+priceCharges file ps = onAccepted (priceVerdict file ps) (charges (taskOf file) ps) noCharges
+
 -- pricing the points of a plan block: the file's refusals, then the block's own, then those of its points; the block's other fields are not
 -- compared with the file
 unfoldable pub blockVerdict : List ℕ → List ℕ → Verdict
@@ -83,3 +88,7 @@ blockPlan file block = onAccepted (blockVerdict file block) (planFor (taskOf fil
 pub record PlanAnswer (file : List ℕ) (v : Verdict) (p : Plan) : Type 0 where
   pub refused : (x : Refusal) → verdict file ≡ Refused x → (v ≡ Refused x) × (p ≡ noPlan)
   pub planned : IsAccepted file → Planned (taskOf file) v p
+
+-- and the charges: those of the list that the plan holds
+unfoldable pub planCharges : List ℕ → Verdict → Plan → List ℕ
+planCharges file v p = onAccepted v (charges (taskOf file) (chosen p)) noCharges

@@ -4,7 +4,7 @@ ghost use Rattle.model.specs.Answers.{onAccepted};
 ghost use Rattle.model.specs.Planning.{noPlan};
 ghost use Rattle.taskfile.specs.File.{verdict};
 ghost use Rattle.planblock.specs.Plans.{storeVerdict, stored, readVerdict, planOf};
-ghost use Rattle.planner.specs.Calls.{noWords, edgeVerdict, usefulWords, nextReadOf, lookedOf, regionVerdict, loadedWords, lengthOf, priceVerdict, priceLines, priceCost, blockVerdict, blockPlace, blockPlan, PlanAnswer};
+ghost use Rattle.planner.specs.Calls.{noWords, edgeVerdict, usefulWords, nextReadOf, lookedOf, regionVerdict, loadedWords, lengthOf, priceVerdict, priceLines, priceCost, priceCharges, blockVerdict, blockPlace, blockPlan, PlanAnswer, planCharges};
 use lineset::LineSet;
 use model::Next;
 use model::Plan;
@@ -12,7 +12,7 @@ use model::Refusal;
 use model::Verdict;
 use planblock::PlanRead;
 use planning::FilePlan;
-use pricing::Price;
+use pricing::ChargedPrice;
 
 // The useful lines at an edge.
 pub struct UsefulLines {
@@ -39,6 +39,13 @@ pub struct BlockPrice {
     pub verdict: Verdict,
     pub place: usize,
     pub plan: Plan,
+}
+
+// A plan of a file, and what each preempter is charged of its lines, from 0.
+pub struct ChargedPlan {
+    pub verdict: Verdict,
+    pub plan: Plan,
+    pub charges: [u32; 32],
 }
 
 // Whether k is an edge of an accepted file: the file's refusal, or 7 for k above N.
@@ -139,21 +146,23 @@ fn no_region(verdict: Verdict) -> RegionLines
     }
 }
 
-// The lines and the cost of a list of points.
-pub fn price(file: &[u8], points: &[u16]) -> Price
+// The lines and the cost of a list of points, and what each preempter is charged of the lines.
+pub fn price(file: &[u8], points: &[u16]) -> ChargedPrice
     ensures { λ r. ⌜ r .verdict ≡ priceVerdict (now (file .entry)) (now (points .entry)) ⌝ }
     ensures { λ r. ⌜ r .lines ≡ priceLines (now (file .entry)) (now (points .entry)) ⌝ }
     ensures { λ r. ⌜ r .cost ≡ priceCost (now (file .entry)) (now (points .entry)) ⌝ }
+    ensures { λ r. ⌜ r .charges ≡ priceCharges (now (file .entry)) (now (points .entry)) ⌝ }
 {
     let checked = taskfile::check(file);
     let Verdict::Accepted = checked else {
-        return Price {
+        return ChargedPrice {
             verdict: checked,
             lines: 0,
             cost: 0,
+            charges: [0u32; 32],
         };
     };
-    pricing::price_of(file, points)
+    pricing::charged_price_of(file, points)
 }
 
 // The plan of the points of a plan block, with the file's N and id.
@@ -191,8 +200,33 @@ fn no_block_price(verdict: Verdict, place: usize) -> BlockPrice
     }
 }
 
-// The plan of the first of the fitting lists that cost least.
-pub fn plan(file: &[u8]) -> FilePlan
+// The plan of the first of the fitting lists that cost least, and what each preempter is charged of its lines.
+pub fn plan(file: &[u8]) -> ChargedPlan
+    ensures { λ r. ⌜ PlanAnswer (now (file .entry)) (r .verdict) (r .plan) ⌝ }
+    ensures { λ r. ⌜ r .charges ≡ planCharges (now (file .entry)) (r .verdict) (r .plan) ⌝ }
+{
+    let least = least_plan(file);
+    let verdict = least.verdict;
+    let plan = least.plan;
+    let Verdict::Accepted = verdict else {
+        return ChargedPlan {
+            verdict,
+            plan,
+            charges: [0u32; 32],
+        };
+    };
+    let points = plan.points;
+    let count = plan.count as usize;
+    let charges = pricing::charges_of(file, &points[..count]);
+    ChargedPlan {
+        verdict,
+        plan,
+        charges,
+    }
+}
+
+// The same plan without charges, for whoever has no use for them.
+pub fn least_plan(file: &[u8]) -> FilePlan
     ensures { λ r. ⌜ PlanAnswer (now (file .entry)) (r .verdict) (r .plan) ⌝ }
 {
     let checked = taskfile::check(file);

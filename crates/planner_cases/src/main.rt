@@ -1,10 +1,11 @@
 // What the planner's calls answer of each task file that the arguments name: its plan, and for a task of at most four blocks the useful
-// lines of each edge, the loaded lines and length of each region, and the price of some lists.
+// lines of each edge, the loaded lines and length of each region, and the price of some lists with each preempter's charge.
 ghost use Prim.Native.Nat.{_≤_};
 use lineset::LineSet;
 use model::Plan;
 use model::Refusal;
 use model::Verdict;
+use pricing::ChargedPrice;
 
 fn print_refusal(refusal: Refusal) {
     desk::print(b" ");
@@ -31,6 +32,27 @@ fn print_lines(set: LineSet) {
 fn print_lines_and_cost(lines: u64, cost: u64) {
     desk::print_field(b" lines ", lines);
     desk::print_field(b" cost ", cost);
+}
+
+// The charges of the first m preempters; there are at most 32.
+fn print_charges(charges: [u32; 32], m: usize) {
+    let mut i = 0;
+    while i < 32 {
+        if i < m {
+            desk::print_field(b" ", charges[i] as u64);
+        }
+        i += 1;
+    }
+}
+
+fn print_price(price: ChargedPrice, m: usize) {
+    print_lines_and_cost(price.lines, price.cost);
+    desk::print(b" charges");
+    if m == 0 {
+        desk::print(b" none");
+    }
+    let charges = price.charges;
+    print_charges(charges, m);
     desk::end_line();
 }
 
@@ -39,6 +61,7 @@ fn print_plan(plan: Plan) {
     desk::print(b" points");
     print_points(&points, plan.count as usize);
     print_lines_and_cost(plan.lines as u64, plan.cost);
+    desk::end_line();
 }
 
 fn show_plan(file: &[u8]) {
@@ -86,13 +109,13 @@ fn show_region(file: &[u8], a: usize, b: usize) {
     }
 }
 
-fn show_price(file: &[u8], points: &[u16]) {
+fn show_price(file: &[u8], m: usize, points: &[u16]) {
     let price = planner::price(file, points);
     let verdict = price.verdict;
     desk::print(b"list");
     print_points(points, points.len());
     match verdict {
-        Verdict::Accepted => print_lines_and_cost(price.lines, price.cost),
+        Verdict::Accepted => print_price(price, m),
         Verdict::Refused(refusal) => print_refusal(refusal),
     }
 }
@@ -134,26 +157,26 @@ fn show_all_regions(file: &[u8], n: usize)
 }
 
 // Every list of points up to 3, and four that are not well formed in a task of four blocks.
-fn show_prices(file: &[u8]) {
-    show_price(file, &[]);
-    show_price(file, &[1]);
-    show_price(file, &[2]);
-    show_price(file, &[1, 2]);
-    show_price(file, &[3]);
-    show_price(file, &[1, 3]);
-    show_price(file, &[2, 3]);
-    show_price(file, &[1, 2, 3]);
-    show_price(file, &[2, 2]);
-    show_price(file, &[0]);
-    show_price(file, &[4]);
-    show_price(file, &[3, 1]);
+fn show_prices(file: &[u8], m: usize) {
+    show_price(file, m, &[]);
+    show_price(file, m, &[1]);
+    show_price(file, m, &[2]);
+    show_price(file, m, &[1, 2]);
+    show_price(file, m, &[3]);
+    show_price(file, m, &[1, 3]);
+    show_price(file, m, &[2, 3]);
+    show_price(file, m, &[1, 2, 3]);
+    show_price(file, m, &[2, 2]);
+    show_price(file, m, &[0]);
+    show_price(file, m, &[4]);
+    show_price(file, m, &[3, 1]);
 }
 
-fn show_small(file: &[u8], n: usize) {
+fn show_small(file: &[u8], n: usize, m: usize) {
     if n <= 4 {
         show_all_useful(file, n);
         show_all_regions(file, n);
-        show_prices(file);
+        show_prices(file, m);
     }
 }
 
@@ -163,7 +186,11 @@ fn show_task(file: &[u8]) {
     let Verdict::Accepted = checked else {
         return;
     };
-    show_small(file, taskfile::block_count(file));
+    show_small(
+        file,
+        taskfile::block_count(file),
+        taskfile::preempter_count(file),
+    );
 }
 
 // The name of the file that argument i names, and what is answered of it.

@@ -1,6 +1,29 @@
-// Prices the points that the arguments give, for the task file on standard input: what `plan` prints of its own list, or the refusal.
+// Prices the points that the arguments give, for the task file on standard input: what `plan` prints of its own list, and what each preempter is
+// charged; or the refusal.
+ghost use mathlib.Core.Path.{_≡_};
+ghost use Rattle.model.specs.Task.{blockCount};
+ghost use Rattle.model.specs.Lists.{wrongPoint};
+ghost use Rattle.taskfile.specs.File.{IsAccepted, taskOf};
 use desk::Decimal;
+use model::Place;
 use model::Verdict;
+use pricing::ChargedPrice;
+
+// The price of a well-formed list.
+fn print_price(file: &[u8], points: &[u16], price: ChargedPrice)
+    requires { ⌜ IsAccepted (now file) × (wrongPoint (blockCount (taskOf (now file))) (now points) ≡ Place.Nowhere) ⌝ }
+{
+    report::print_list(
+        file,
+        taskfile::header(file).id,
+        taskfile::block_count(file),
+        points,
+        price.lines,
+        price.cost,
+    );
+    let charges = price.charges;
+    report::print_charges(file, charges);
+}
 
 // The answer to the first points.
 fn print_answer(file: &[u8], points: &[u16; 64], count: usize) {
@@ -8,14 +31,7 @@ fn print_answer(file: &[u8], points: &[u16; 64], count: usize) {
     let price = planner::price(file, listed);
     let verdict = price.verdict;
     match verdict {
-        Verdict::Accepted => report::print_list(
-            file,
-            taskfile::header(file).id,
-            taskfile::block_count(file),
-            listed,
-            price.lines,
-            price.cost,
-        ),
+        Verdict::Accepted => print_price(file, listed, price),
         Verdict::Refused(refusal) => desk::print_refusal(refusal),
     }
 }

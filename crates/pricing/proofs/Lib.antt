@@ -1,2 +1,3 @@
 pub mod Pricing
 pub mod Walk
+pub mod Charging

@@ -28,7 +28,7 @@ pub regionsFrom : ℕ → List ℕ → ℕ → ℕ → List Region
 regionsFrom n ps i a = cond (leb i (length ps)) (regions n a (drop i ps)) []
 
 module _ (n : ℕ) (ps : List ℕ) where
-  from-first : regionsFrom n ps 0 0 ≡ regions n 0 ps
+  pub from-first : regionsFrom n ps 0 0 ≡ regions n 0 ps
   unfolding regionsFrom
   from-first = rw (leb·zero (length ps)) refl
 
@@ -41,13 +41,19 @@ module _ (n : ℕ) (ps : List ℕ) where
       let end : length ps ≤ i = omega arith in
       rw (le-leb i (length ps) h, lt-leb (i + 1) (length ps) (omega arith), drop-of-length-le ps end, List·getD-eq-default ps n end) refl)
 
-  from-end : (i a : ℕ) → length ps < i → regionsFrom n ps i a ≡ []
+  pub from-end : (i a : ℕ) → length ps < i → regionsFrom n ps i a ≡ []
   unfolding regionsFrom
   from-end i a h = rw (lt-leb i (length ps) h) refl
 
 -- the edge where region i of a list starts
 abbrev pub startOf : Task → List ℕ → ℕ → ℕ
 startOf t ps i = getD (0 ∷ ps) i (blockCount t)
+
+-- region i, and those behind it
+pub from-start : (t : Task) (ps : List ℕ) (i : ℕ) → i ≤ length ps
+    → regionsFrom (blockCount t) ps i (startOf t ps i)
+    ≡ record { from = startOf t ps i; to = getD ps i (blockCount t) } ∷ regionsFrom (blockCount t) ps (i + 1) (startOf t ps (i + 1))
+from-start t ps i h = rw (add-one i) (rw (add-one i) at (from-next (blockCount t) ps i (startOf t ps i) h))
 
 -- the first i regions of a list are within the limit, reload so many lines and cost so much
 pub record Passed (t : Task) (ps : List ℕ) (i count paid : ℕ) : Type 0 where
@@ -73,7 +79,7 @@ module _ {t : Task} {ps : List ℕ} {i count paid : ℕ} (w : Passed t ps i coun
   module _ (h : i ≤ length ps) where
     next : regionsFrom (blockCount t) ps i (startOf t ps i)
         ≡ record { from = startOf t ps i; to = getD ps i (blockCount t) } ∷ regionsFrom (blockCount t) ps (i + 1) (startOf t ps (i + 1))
-    next = rw (add-one i) (rw (add-one i) at (from-next (blockCount t) ps i (startOf t ps i) h))
+    next = from-start t ps i h
 
     pub passed-more : (m x : ℕ) → regionFits t (startOf t ps i) (getD ps i (blockCount t)) ≡ true
         → m ≡ regionLines t (startOf t ps i) (getD ps i (blockCount t)) → m ≤ 512

@@ -15,7 +15,7 @@ use lib.Dec.{eqb, leb, ltb}
 use lib.ListN.{length, getD, set, replicate, length-set, getD-replicate, List·getD-eq-default}
 use lib.Seq.{getD-set-same, getD-set-other}
 use borrow.Author.Tests.{eq-eqb, ne-eqb, le-leb, lt-leb, lt-ltb, le-ltb}
-use Rattle.model.specs.Sets.{bit}
+use Rattle.model.specs.Sets.{Lines, bit}
 use Rattle.model.specs.Task.{Task, blockCount}
 use Rattle.model.specs.Lines.{onLine, sameBlock, readsOf, blockAt, evicted}
 use Rattle.model.specs.Lists.{wrongPoint}
@@ -23,17 +23,12 @@ use Rattle.model.specs.Regions.{regionLines}
 use Rattle.model.specs.declared.Line.{Line}
 use Rattle.model.specs.declared.Line.the-variants.{Empty, Held}
 use Rattle.model.specs.declared.Place.the-variants.{Nowhere}
-use Rattle.model.proofs.Digits.{count-le}
 use Rattle.model.proofs.Histories.{History, history-none, history-skip, history-more}
 use Rattle.model.proofs.Loads.{loadedBy, loaded-none, loaded-all, loaded-more}
 use Rattle.model.proofs.ReadOrder.{edge}
 use Rattle.pointlist.proofs.Points.{region-edges}
 use Rattle.pricing.specs.Prices.{Loads}
 use Rattle.pricing.proofs.Pricing.{startOf}
-
-pub loaded-few : (t : Task) (a p : ℕ) → loadedBy t a p ≤ 512
-unfolding loadedBy
-loaded-few t a p = count-le 512 _
 
 -- after p reads, up to block k, in region r, which starts at edge a: what each line holds, and its last read, which lies before the region's start
 -- if an earlier region read it
@@ -124,10 +119,10 @@ module _ (t : Task) (i j m : ℕ) (hi : i < blockCount t) (hj : j < length (bloc
         there : (c : ℕ) → (c ≡ line → ⊥) → getD (set since line s) c 0 ≡ getD since c 0
         there c n = getD-set-other since line c s 0 n
 
-    -- whether the region loads it
-    pub known-loads : loadedBy t a (suc (edge t i + j))
-        ≡ loadedBy t a (edge t i + j) + bit (evicted t line && sameBlock (getD held line Empty) (Held m) && ltb (getD since line 0) (suc r))
-    known-loads = rw (← (w .earlier line hl)) (loaded-more t i j m hi hj is a l line hl at (w .history))
+    -- whether the region loads it, as a line of h
+    pub known-loads : (h : Lines) → loadedBy t h a (suc (edge t i + j))
+        ≡ loadedBy t h a (edge t i + j) + bit (h line && sameBlock (getD held line Empty) (Held m) && ltb (getD since line 0) (suc r))
+    known-loads h = rw (← (w .earlier line hl)) (loaded-more t h i j m hi hj is a l line hl at (w .history))
 
 module _ (t : Task) (ps : List ℕ) where
   -- at edge i, in region r, which ends at or after it
@@ -138,7 +133,7 @@ module _ (t : Task) (ps : List ℕ) where
     pub long : length lines ≡ 64
     pub behind : (q : ℕ) → q < r → getD lines q 0 ≡ regionLines t (startOf t ps q) (getD ps q (blockCount t))
     pub stored : startOf t ps r < i → getD lines r 0 ≡ count
-    pub counted : count ≡ loadedBy t (startOf t ps r) (edge t i)
+    pub counted : count ≡ loadedBy t (evicted t) (startOf t ps r) (edge t i)
 
   pub at-start : {lines : List ℕ} → length lines ≡ 64 → AtEdge 0 0 0 lines
   at-start long =
@@ -149,7 +144,7 @@ module _ (t : Task) (ps : List ℕ) where
         long = long;
         behind = λ q l. absurd (omega arith);
         stored = λ l. absurd (omega arith);
-        counted = sym (loaded-none t 0);
+        counted = sym (loaded-none t (evicted t) 0);
       }
 
   module _ (least : 0 < blockCount t) (right : wrongPoint (blockCount t) ps ≡ Nowhere) {i r count : ℕ} {lines : List ℕ} (w : AtEdge i r count lines) where
@@ -170,7 +165,7 @@ module _ (t : Task) (ps : List ℕ) where
             below-more _ r (w .behind)
             (w .stored (omega (arith, edges .1)) ∙ w .counted ∙ loaded-all t (startOf t ps r) i (w .passed) (omega arith) ∙ rw e refl);
         stored = λ l. absurd (omega (arith, next));
-        counted = rw next (sym (loaded-none t i));
+        counted = rw next (sym (loaded-none t (evicted t) i));
       },
       next,
       later,
@@ -186,7 +181,7 @@ module _ (t : Task) (ps : List ℕ) where
         later = omega (arith, next, region-edges (blockCount t) ps least right (r + 1) (omega (arith, inside)) .1)
 
     -- a block is passed, and what was counted is stored
-    pub next-edge : (n : ℕ) → blockCount t ≤ 64 → i < getD ps r (blockCount t) → n ≡ loadedBy t (startOf t ps r) (edge t (suc i)) → AtEdge (i + 1) r n (set lines r n)
+    pub next-edge : (n : ℕ) → blockCount t ≤ 64 → i < getD ps r (blockCount t) → n ≡ loadedBy t (evicted t) (startOf t ps r) (edge t (suc i)) → AtEdge (i + 1) r n (set lines r n)
     next-edge n most l e =
         record {
           index = w .index;
@@ -198,7 +193,16 @@ module _ (t : Task) (ps : List ℕ) where
           counted = rw (add-one i) e;
         }
 
-    -- at the end all regions are counted
+    -- at the end the region is the last: the next one would start before the end
+    pub at-last : i ≡ blockCount t → r ≡ length ps
+    at-last e =
+        by-cases (decLt r (length ps))
+        (λ l.
+        let next = region-edges (blockCount t) ps least right (suc r) l in
+        absurd (omega (arith, w .end, next .1, next .2)))
+        (λ l. omega (arith, w .index))
+
+    -- and all regions are counted
     pub at-end : i ≡ blockCount t → Loads t ps lines
     at-end e =
         record {
@@ -206,14 +210,8 @@ module _ (t : Task) (ps : List ℕ) where
           loads = λ q h. ⊎-elim (λ s. let there : q ≡ r = s ∙ sym last in rw there here) (λ lt. w .behind q (omega (arith, last))) (eq-or-lt-of-le h);
         }
       where
-        -- the next region would start before the end
         last : r ≡ length ps
-        last =
-            by-cases (decLt r (length ps))
-            (λ l.
-            let next = region-edges (blockCount t) ps least right (suc r) l in
-            absurd (omega (arith, w .end, next .1, next .2)))
-            (λ l. omega (arith, w .index))
+        last = at-last e
 
         here : getD lines r 0 ≡ regionLines t (startOf t ps r) (getD ps r (blockCount t))
         here =

@@ -1,4 +1,4 @@
-// For an accepted file: the price of a list of points.
+// For an accepted file: the price of a list of points, and what each preempter is charged of it.
 ghost use mathlib.Core.Bool.{_&&_};
 ghost use mathlib.Core.Path.{_≡_};
 ghost use Prim.Native.Nat.{_≤_};
@@ -7,8 +7,11 @@ ghost use Rattle.model.specs.Sets.{bit};
 ghost use Rattle.model.specs.Task.{blockCount};
 ghost use Rattle.model.specs.Lines.{sameBlock};
 ghost use Rattle.model.specs.Lists.{wrongPoint};
+ghost use Rattle.model.specs.Charges as Charges;
+ghost use Rattle.model.specs.Charges.{noCharges};
+ghost use Rattle.model.specs.Answers.{onAccepted};
 ghost use Rattle.taskfile.specs.File.{IsAccepted, taskOf};
-ghost use Rattle.pricing.specs.Prices.{Prices, Loads};
+ghost use Rattle.pricing.specs.Prices.{Prices, ChargedPrices, Loads};
 use model::Line;
 use model::Mapping;
 use model::Place;
@@ -20,6 +23,14 @@ pub struct Price {
     pub verdict: Verdict,
     pub lines: u64,
     pub cost: u64,
+}
+
+// The same with each preempter's charge, from 0; a refusal charges nothing.
+pub struct ChargedPrice {
+    pub verdict: Verdict,
+    pub lines: u64,
+    pub cost: u64,
+    pub charges: [u32; 32],
 }
 
 // The price of a list of points: 7 at its lowest wrong point, then 8 at its lowest region that does not fit.
@@ -35,6 +46,33 @@ pub fn price_of(file: &[u8], points: &[u16]) -> Price
             price_regions(file, points, &lines)
         }
     }
+}
+
+// The same with charges.
+pub fn charged_price_of(file: &[u8], points: &[u16]) -> ChargedPrice
+    requires { ⌜ IsAccepted (now file) ⌝ }
+    ensures { λ r. ⌜ ChargedPrices (taskOf (now (file .entry))) (now (points .entry)) r ⌝ }
+{
+    match pointlist::wrong_point(points, taskfile::block_count(file)) {
+        Place::At(i) => with_charges(no_price(Refusal::Argument(i)), [0u32; 32]),
+        Place::Nowhere => {
+            let mut lines = [0u32; 64];
+            let mut charges = [0u32; 32];
+            charge_lines(file, points, &mut lines, &mut charges);
+            with_charges(price_regions(file, points, &lines), charges)
+        }
+    }
+}
+
+// The charges of a well-formed list.
+pub fn charges_of(file: &[u8], points: &[u16]) -> [u32; 32]
+    requires { ⌜ IsAccepted (now file) × (wrongPoint (blockCount (taskOf (now file))) (now points) ≡ Place.Nowhere) ⌝ }
+    ensures { λ r. ⌜ r ≡ Charges.charges (taskOf (now (file .entry))) (now (points .entry)) ⌝ }
+{
+    let mut lines = [0u32; 64];
+    let mut charges = [0u32; 32];
+    charge_lines(file, points, &mut lines, &mut charges);
+    charges
 }
 
 // The lines of each region of a well-formed list, in one walk over the reads: what each line holds, and the region that read it last, from 1 on. A
@@ -68,6 +106,53 @@ pub fn count_lines(file: &[u8], points: &[u16], lines: &mut [u32; 64])
                 Mapping::Cached(c) => {
                     let line = held[c];
                     count += loads(line, number, evicted[c], since[c] < here);
+                    held[c] = Line::Held(number);
+                    since[c] = here;
+                }
+            }
+            j += 1;
+        }
+        lines[region] = count;
+        i += 1;
+    }
+}
+
+// The same walk with charges: each line's mark is the first preempter that touches it, and a read that loads the line adds one to that preempter's
+// charge. The charges are lent with zeros everywhere.
+pub fn charge_lines(file: &[u8], points: &[u16], lines: &mut [u32; 64], charges: &mut [u32; 32])
+    requires { ⌜ IsAccepted (now file) × (wrongPoint (blockCount (taskOf (now file))) (now points) ≡ Place.Nowhere) × (length (now lines) ≡ 64) × (now charges ≡ noCharges) ⌝ }
+    ensures { λ _. ⌜ Loads (taskOf (now (file .entry))) (now (points .entry)) (now (lines .exit)) ⌝ }
+    ensures { λ _. ⌜ now (charges .exit) ≡ Charges.charges (taskOf (now (file .entry))) (now (points .entry)) ⌝ }
+{
+    let cache = cacheline::geometry_of(file);
+    let blocks = taskfile::block_count(file);
+    let mut first = [32u8; 512];
+    reuse::mark_first(&mut first, file, cache);
+    let mut held = [Line::Empty; 512];
+    let mut since = [0u8; 512];
+    let mut region = 0;
+    let mut count = 0u32;
+    let mut i = 0;
+    while i < blocks {
+        if edge_after(points, region, blocks) == i {
+            region += 1;
+            count = 0;
+        }
+        let here = (region + 1) as u8;
+        let k = i + 1;
+        let reads = taskfile::read_count(file, k);
+        let mut j = 0;
+        while j < reads {
+            let number = taskfile::read(file, k, j);
+            match cache.line_of(number) {
+                Mapping::Uncached => {}
+                Mapping::Cached(c) => {
+                    let line = held[c];
+                    let mark = first[c];
+                    let loaded = loads(line, number, mark < 32, since[c] < here);
+                    let owner = (mark % 32) as usize;
+                    count += loaded;
+                    charges[owner] += loaded;
                     held[c] = Line::Held(number);
                     since[c] = here;
                 }
@@ -122,6 +207,24 @@ pub fn edge_after(points: &[u16], i: usize, n: usize) -> usize
         points[i] as usize
     } else {
         n
+    }
+}
+
+// A price with these charges, or with none where it is a refusal.
+fn with_charges(price: Price, charges: [u32; 32]) -> ChargedPrice
+    ensures { λ r. ⌜ (r .verdict ≡ price .verdict) × (r .lines ≡ price .lines) × (r .cost ≡ price .cost) ⌝ }
+    ensures { λ r. ⌜ r .charges ≡ onAccepted (price .verdict) charges noCharges ⌝ }
+{
+    let verdict = price.verdict;
+    let kept = match verdict {
+        Verdict::Accepted => charges,
+        Verdict::Refused(_) => [0u32; 32],
+    };
+    ChargedPrice {
+        verdict,
+        lines: price.lines,
+        cost: price.cost,
+        charges: kept,
     }
 }
 

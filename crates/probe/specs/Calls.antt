@@ -1,13 +1,16 @@
 -- What the calls on a file return and leave. Each returns the number of its refusal and leaves the place, 0 and 0 where it accepts
 -- (`verdictNumber` and `verdictPlace` of `model`); in the lent buffer it leaves numbers, eight bytes each. Assumes nothing.
 use Prim.Native.Nat.{ℕ}
+use mathlib.Core.Path.{_≡_}
 use mathlib.Core.List.{List, [], _∷_}
 use lib.ListN.{length}
-use Rattle.model.specs.Answers.{onAccepted, andThen, outputRow}
+use Rattle.model.specs.Answers.{verdictNumber, verdictPlace, onAccepted, andThen, outputRow}
 use Rattle.model.specs.declared.Next.{Next}
 use Rattle.model.specs.declared.Next.the-variants.{Read, Never}
+use Rattle.model.specs.declared.Plan.{Plan}
 use Rattle.model.specs.declared.Verdict.{Verdict}
 use Rattle.block.specs.Bytes.{les}
+use Rattle.planner.specs.Calls.{PlanAnswer, planCharges}
 
 -- the answer of a call that asks for a buffer of this size: 9 first
 unfoldable pub probed : ℕ → Verdict → List ℕ → Verdict
@@ -21,3 +24,12 @@ left size v numbers out = onAccepted (probed size v out) (les 8 numbers) out
 abbrev pub nextNumbers : Next → ℕ → List ℕ
 nextNumbers (Read m) looked = 1 ∷ m ∷ looked ∷ []
 nextNumbers Never looked = 0 ∷ 0 ∷ looked ∷ []
+
+-- what the call of planning returns and leaves: lines, cost and charges of a plan that is right for the file
+pub record PlanLeft (file out : List ℕ) (r place : ℕ) (after : List ℕ) : Type 0 where
+  pub verdict : Verdict
+  pub plan : Plan
+  pub answer : PlanAnswer file verdict plan
+  pub number-is : r ≡ verdictNumber (probed 272 verdict out)
+  pub place-is : place ≡ verdictPlace (probed 272 verdict out)
+  pub left-is : after ≡ left 272 verdict (plan .lines ∷ plan .cost ∷ planCharges file verdict plan) out

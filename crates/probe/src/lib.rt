@@ -1,5 +1,5 @@
-// For tests: the useful lines of an edge, the next read of a line, the loaded lines and the length of a region, the misses of a replay, files from a
-// seed and joined files, through the public calls. Each call returns the number of its refusal and leaves the place, 0 and 0 where it accepts.
+// For tests: the useful lines of an edge, the next read of a line, the loaded lines and the length of a region, the charges of a list and of a plan,
+// the misses of a replay, files from a seed and joined files, through the public calls. Each call returns the number of its refusal and leaves the place, 0 and 0 where it accepts.
 // A set is left as its eight words; every number takes eight bytes, the lowest first.
 ghost use mathlib.Core.List.{[], _∷_, _++_};
 ghost use mathlib.Core.Path.{_≡_};
@@ -7,11 +7,11 @@ ghost use Prim.Native.Nat.{_*_, _≤_};
 ghost use lib.ListN.{length};
 ghost use Rattle.model.specs.Answers.{verdictNumber, verdictPlace};
 ghost use Rattle.block.specs.Bytes.{les};
-ghost use Rattle.planner.specs.Calls.{edgeVerdict, usefulWords, nextReadOf, lookedOf, regionVerdict, loadedWords, lengthOf};
+ghost use Rattle.planner.specs.Calls.{edgeVerdict, usefulWords, nextReadOf, lookedOf, regionVerdict, loadedWords, lengthOf, priceVerdict, priceLines, priceCost, priceCharges};
 ghost use Rattle.replaying.specs.Calls.{replayVerdict, missesAloneOf, missesWithOf};
 ghost use Rattle.testload.specs.Calls.{generateVerdict, generated};
 ghost use Rattle.joining.specs.Calls.{joinVerdict, joinPlace, joinLeft};
-ghost use Rattle.probe.specs.Calls.{probed, left, nextNumbers};
+ghost use Rattle.probe.specs.Calls.{probed, left, nextNumbers, PlanLeft};
 use lineset::LineSet;
 use model::Next;
 use model::Verdict;
@@ -66,6 +66,33 @@ pub extern "C" fn probe_region(
     let verdict = found.verdict;
     let words = words_of(found.loaded);
     let numbers = region_numbers(words, found.length);
+    leave(verdict, &numbers, out, place)
+}
+
+// The lines, the cost and the 32 charges of a list of points, in 272 bytes.
+#[no_mangle]
+pub extern "C" fn probe_price(file: &[u8], points: &[u16], out: &mut [u8], place: &mut usize) -> u32
+    ensures { λ r. ⌜ r ≡ verdictNumber (probed 272 (priceVerdict (now (file .entry)) (now (points .entry))) (now (out .entry))) ⌝ }
+    ensures { λ _. ⌜ now (place .exit) ≡ verdictPlace (probed 272 (priceVerdict (now (file .entry)) (now (points .entry))) (now (out .entry))) ⌝ }
+    ensures { λ _. ⌜ now (out .exit) ≡ left 272 (priceVerdict (now (file .entry)) (now (points .entry))) (priceLines (now (file .entry)) (now (points .entry)) ∷ priceCost (now (file .entry)) (now (points .entry)) ∷ priceCharges (now (file .entry)) (now (points .entry))) (now (out .entry)) ⌝ }
+{
+    let found = planner::price(file, points);
+    let verdict = found.verdict;
+    let charges = found.charges;
+    let numbers = charge_numbers(found.lines, found.cost, charges);
+    leave(verdict, &numbers, out, place)
+}
+
+// The same of the plan.
+#[no_mangle]
+pub extern "C" fn probe_plan(file: &[u8], out: &mut [u8], place: &mut usize) -> u32
+    ensures { λ r. ⌜ PlanLeft (now (file .entry)) (now (out .entry)) r (now (place .exit)) (now (out .exit)) ⌝ }
+{
+    let found = planner::plan(file);
+    let verdict = found.verdict;
+    let plan = found.plan;
+    let charges = found.charges;
+    let numbers = charge_numbers(plan.lines as u64, plan.cost, charges);
     leave(verdict, &numbers, out, place)
 }
 
@@ -155,9 +182,24 @@ fn region_numbers(words: [u64; 8], length: u64) -> [u64; 9]
     ]
 }
 
+// The numbers of a price: lines, cost and charges.
+fn charge_numbers(lines: u64, cost: u64, charges: [u32; 32]) -> [u64; 34]
+    ensures { λ r. ⌜ r ≡ lines ∷ cost ∷ charges ⌝ }
+{
+    let mut numbers = [0u64; 34];
+    numbers[0] = lines;
+    numbers[1] = cost;
+    let mut k = 0;
+    while k < 32 {
+        numbers[k + 2] = charges[k] as u64;
+        k += 1;
+    }
+    numbers
+}
+
 // Leaves numbers in a buffer of their size where the verdict accepts; returns the number of the refusal, and leaves its place.
 fn leave(verdict: Verdict, numbers: &[u64], out: &mut [u8], place: &mut usize) -> u32
-    requires { ⌜ length (now numbers) ≤ 9 ⌝ }
+    requires { ⌜ length (now numbers) ≤ 34 ⌝ }
     ensures { λ r. ⌜ r ≡ verdictNumber (probed (8 * length (now (numbers .entry))) verdict (now (out .entry))) ⌝ }
     ensures { λ _. ⌜ now (place .exit) ≡ verdictPlace (probed (8 * length (now (numbers .entry))) verdict (now (out .entry))) ⌝ }
     ensures { λ _. ⌜ now (out .exit) ≡ left (8 * length (now (numbers .entry))) verdict (now (numbers .entry)) (now (out .entry)) ⌝ }
@@ -175,7 +217,7 @@ fn leave(verdict: Verdict, numbers: &[u64], out: &mut [u8], place: &mut usize) -
 
 // Stores numbers in a buffer of their size.
 fn put_numbers(numbers: &[u64], out: &mut [u8])
-    requires { ⌜ (length (now numbers) ≤ 9) × (length (now out) ≡ 8 * length (now numbers)) ⌝ }
+    requires { ⌜ (length (now numbers) ≤ 34) × (length (now out) ≡ 8 * length (now numbers)) ⌝ }
     ensures { λ _. ⌜ now (out .exit) ≡ les 8 (now (numbers .entry)) ⌝ }
 {
     let mut i = 0;

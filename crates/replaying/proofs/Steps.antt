@@ -47,7 +47,7 @@ module _ (t : Task) (ps : List ℕ) where
     pub long-since : length since ≡ 512
     pub history : History t p held (λ c. getD since c 0)
     pub alone-is : alone ≡ misses t emptyCache (readsBefore t p)
-    pub preempted-is : preempted + total (regionLines t) (regions (blockCount t) (passed .last) (drop (passed .next) ps)) ≡ alone + lines t ps + loadedBy t (passed .last) p
+    pub preempted-is : preempted + total (regionLines t) (regions (blockCount t) (passed .last) (drop (passed .next) ps)) ≡ alone + lines t ps + loadedBy t (evicted t) (passed .last) p
 
   pub at-start : Replayed (edge t 0) (record { next = 0; last = 0 }) (replicate 512 Empty) (replicate 512 0) 0 0
   unfolding misses readsOf
@@ -56,7 +56,7 @@ module _ (t : Task) (ps : List ℕ) where
         long-since = refl;
         history = history-none t (λ c. getD (replicate 512 0) c 0);
         alone-is = refl;
-        preempted-is = omega (arith, loaded-none t 0);
+        preempted-is = omega (arith, loaded-none t (evicted t) 0);
       }
 
   -- read j of block i + 1, of number m
@@ -69,7 +69,7 @@ module _ (t : Task) (ps : List ℕ) where
           long-since = w .long-since;
           history = history-skip t i j m hi hj is (lies-nowhere t m at) (w .history);
           alone-is = w .alone-is ∙ sym (misses-skip t i j m hi hj is at);
-          preempted-is = rw (loaded-skip t i j m hi hj is (passed .last) before (lies-nowhere t m at)) (w .preempted-is);
+          preempted-is = rw (loaded-skip t (evicted t) i j m hi hj is (passed .last) before (lies-nowhere t m at)) (w .preempted-is);
         }
 
     -- on this line; x and y are its misses
@@ -90,7 +90,7 @@ module _ (t : Task) (ps : List ℕ) where
                 ex,
                 ey,
                 lost-adds (evicted t line) (leb (getD since line 0) (passed .last)) (getD held line Empty) m,
-                loaded-more t i j m hi hj is (passed .last) before line hl (lies-on t m line at) (w .history),
+                loaded-more t (evicted t) i j m hi hj is (passed .last) before line hl (lies-on t m line at) (w .history),
               );
         }
 
@@ -135,7 +135,7 @@ module _ (t : Task) (ps : List ℕ) where
                 long-since = w .long-since;
                 history = w .history;
                 alone-is = w .alone-is;
-                preempted-is = omega (arith, rw split at (w .preempted-is), loaded-all t (passed .last) (suc i) (omega arith) hi, loaded-none t (suc i));
+                preempted-is = omega (arith, rw split at (w .preempted-is), loaded-all t (passed .last) (suc i) (omega arith) hi, loaded-none t (evicted t) (suc i));
               },
               omega arith,
               and-eq-true-iff (rightPoint (blockCount t) i (suc i)) _ .0 (rw split at left) .1,

@@ -1,4 +1,4 @@
-// The lines that `plan` and `price` print of a list of points.
+// The lines that `plan` and `price` print of a list of points, and those that `price` prints of the preempters.
 ghost use mathlib.Core.Path.{_≡_};
 ghost use Rattle.model.specs.Task.{blockCount};
 ghost use Rattle.model.specs.Lists.{wrongPoint};
@@ -41,4 +41,24 @@ pub fn print_list(file: &[u8], id: u32, n: usize, points: &[u16], lines: u64, co
     desk::print_field(b" cost ", cost);
     desk::end_line();
     print_regions(file, points);
+}
+
+// The charge of preempter i.
+fn print_charge(i: usize, id: u32, lines: u32) {
+    desk::print_field(b"preempter ", i as u64);
+    desk::print_field(b" id ", id as u64);
+    desk::print_field(b" lines ", lines as u64);
+    desk::end_line();
+}
+
+// The charges of an accepted file's preempters.
+pub fn print_charges(file: &[u8], charges: [u32; 32])
+    requires { ⌜ IsAccepted (now file) ⌝ }
+{
+    let count = taskfile::preempter_count(file);
+    let mut i = 0;
+    while i < count {
+        print_charge(i, taskfile::preempter_id(file, i), charges[i]);
+        i += 1;
+    }
 }

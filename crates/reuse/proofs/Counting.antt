@@ -28,7 +28,7 @@ use Rattle.reuse.proofs.Rows.{row-zeros, row-within, row-more, row-othe
 
 -- row r where the walk has come to read q of the task, the reads before block r + 1 included
 pub record Row (t : Task) (counts : List ℕ) (r q : ℕ) : Type 0 where
-  pub loads : (a : ℕ) → a ≤ r → a ≤ 64 → rowSum counts r a + loadedBy t a (edge t r) ≡ loadedBy t a q
+  pub loads : (a : ℕ) → a ≤ r → a ≤ 64 → rowSum counts r a + loadedBy t (evicted t) a (edge t r) ≡ loadedBy t (evicted t) a q
   pub few : rowSum counts r 64 + edge t r ≤ q
 
 -- after p reads, the last of them in block i + 1 or before it
@@ -87,7 +87,7 @@ module _ (t : Task) (i j m : ℕ) (hi : i < blockCount t) (hj : j < length (bloc
         passed = w .passed;
         here =
             record {
-              loads = λ a h l. w .here .loads a h l ∙ sym (loaded-skip t i j m hi hj is a h at);
+              loads = λ a h l. w .here .loads a h l ∙ sym (loaded-skip t (evicted t) i j m hi hj is a h at);
               few = omega (arith, w .here .few);
             };
         ahead = w .ahead;
@@ -122,7 +122,7 @@ module _ (t : Task) (i j m : ℕ) (hi : i < blockCount t) (hj : j < length (bloc
               record {
                 loads =
                     λ a h l.
-                    rw (row-more counts i column x in-row in-counts a, loaded-more t i j m hi hj is a h line hl at (w .history), counted, looked _ (ltb column a))
+                    rw (row-more counts i column x in-row in-counts a, loaded-more t (evicted t) i j m hi hj is a h line hl at (w .history), counted, looked _ (ltb column a))
                     (omega (arith, w .here .loads a h l));
                 few = rw (row-more counts i column x in-row in-counts 64, lt-ltb column 64 in-row) (omega (arith, w .here .few));
               };

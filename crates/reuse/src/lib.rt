@@ -1,5 +1,5 @@
 // For an accepted file: the next read of a line, the lines that are useful at each edge, those that each block reads, those that the
-// preempters evict, and how many lines each region loads first in each of its blocks.
+// preempters evict and which of them first, and how many lines each region loads first in each of its blocks.
 ghost use mathlib.Core.Bool.{false, not, cond, _&&_, _||_};
 ghost use mathlib.Core.Path.{_≡_};
 ghost use Prim.Native.Nat.{ℕ, _+_, _-_, _*_, _<_, _≤_};
@@ -14,7 +14,7 @@ ghost use Rattle.lineset.specs.Members.{members};
 ghost use Rattle.taskfile.specs.File.{IsAccepted, counts, taskOf, entryReads};
 ghost use Rattle.cacheline.specs.Geometries.{GeometryOf, WithinCache};
 ghost use Rattle.reuse.specs.Counts.{NewLines, Rereads, rowSum, SummedRow, SummedRows, OthersStay};
-ghost use Rattle.reuse.specs.States.{HeldAfter, MarkedToo};
+ghost use Rattle.reuse.specs.States.{HeldAfter, MarkedToo, MarkedBy, FirstMarks};
 ghost use Rattle.reuse.specs.FirstReads.{firstIn, Noted};
 use cacheline::Geometry;
 use lineset::LineSet;
@@ -327,6 +327,49 @@ fn mark(marks: &mut [bool; 512], mapping: Mapping)
     match mapping {
         Mapping::Uncached => {}
         Mapping::Cached(c) => marks[c] = true,
+    }
+}
+
+// Marks each line with the first preempter that touches it, from 0; the array is lent with 32 everywhere, which stays where there is none. The
+// preempters come last to first, so that each overwrites those behind it.
+pub fn mark_first(marks: &mut [u8; 512], file: &[u8], cache: Geometry)
+    requires { ⌜ (now marks ≡ replicate 512 32) × IsAccepted (now file) × GeometryOf (taskOf (now file)) cache ⌝ }
+    ensures { λ _. ⌜ FirstMarks (taskOf (now (file .entry))) (now (marks .exit)) ⌝ }
+{
+    let start = taskfile::block_count(file) + 1;
+    let mut i = taskfile::preempter_count(file);
+    while 0 < i {
+        i -= 1;
+        mark_reads_by(marks, file, cache, start + i, i as u8);
+    }
+}
+
+// Marks the lines that block k of the file reads with this number.
+fn mark_reads_by(marks: &mut [u8; 512], file: &[u8], cache: Geometry, k: usize, by: u8)
+    requires { ⌜ length (now marks) ≡ 512 ⌝ }
+    requires { ⌜ IsAccepted (now file) × (1 ≤ k) × (k ≤ counts (now file) .blocks + counts (now file) .preempters) ⌝ }
+    requires { ⌜ GeometryOf (taskOf (now file)) cache ⌝ }
+    ensures { λ _. ⌜ length (now (marks .exit)) ≡ 512 ⌝ }
+    ensures { λ _. ⌜ MarkedBy (λ d. anyRead (onLine (taskOf (now (file .entry))) d) (entryReads (now (file .entry)) k)) by (now (marks .entry)) (now (marks .exit)) ⌝ }
+{
+    let reads = taskfile::read_count(file, k);
+    let mut j = 0;
+    while j < reads {
+        let mapping = cache.line_of(taskfile::read(file, k, j));
+        mark_by(marks, mapping, by);
+        j += 1;
+    }
+}
+
+// Marks a line with this number, if there is one.
+fn mark_by(marks: &mut [u8; 512], mapping: Mapping, by: u8)
+    requires { ⌜ (length (now marks) ≡ 512) × WithinCache mapping ⌝ }
+    ensures { λ _. ⌜ length (now (marks .exit)) ≡ 512 ⌝ }
+    ensures { λ _. ⌜ MarkedBy (λ d. isLine d mapping) by (now (marks .entry)) (now (marks .exit)) ⌝ }
+{
+    match mapping {
+        Mapping::Uncached => {}
+        Mapping::Cached(c) => marks[c] = by,
     }
 }
 

@@ -1,3 +1,5 @@
 pub mod Tasks
 pub mod Calls
 pub mod Replaced
+pub mod Charges
+pub mod Apart

@@ -15,9 +15,13 @@ unfolding collect
 collect-same f g a zero h = refl
 collect-same f g a (suc n) h = ap₂ _∷_ (h a (omega arith) (omega arith)) (collect-same f g (suc a) n (λ i l u. h i (omega arith) (omega arith)))
 
+-- N and M stand in block 0
+pub counts-agree : (file other : List ℕ) → blockIn file 0 ≡ blockIn other 0 → counts file ≡ counts other
+counts-agree file other e = counts-in file ∙ ap counts e ∙ sym (counts-in other)
+
 module _ (file other : List ℕ) (s : SameLines file other) where
   counts-same : counts file ≡ counts other
-  counts-same = counts-in file ∙ ap counts (s .blocks 0 (omega arith)) ∙ sym (counts-in other)
+  counts-same = counts-agree file other (s .blocks 0 (omega arith))
 
   header-same : headerOf file ≡ headerOf other
   header-same = header-in file ∙ ap headerOf (s .blocks 0 (omega arith)) ∙ sym (header-in other)

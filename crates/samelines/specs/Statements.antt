@@ -1,6 +1,7 @@
 -- Of the preempters nothing but their lines matters (document 02, item 7): U, the search, regions,
 -- pricing, planning and replay, from C too, answer alike on two files that differ in their preempters
--- alone, refusals and places included. The left sides are what the calls' contracts cite. Assumes nothing.
+-- alone, refusals and places included; charges do where each preempter's own lines are the same (item 10).
+-- The left sides are what the calls' contracts cite. Assumes nothing.
 use Prim.Native.Nat.{ℕ}
 use mathlib.Core.Path.{_≡_}
 use mathlib.Core.List.{List}
@@ -9,12 +10,13 @@ use Rattle.model.specs.Task.{Preempter, withPreempters}
 use Rattle.model.specs.Lines.{evicted}
 use Rattle.model.specs.declared.Plan.{Plan}
 use Rattle.model.specs.declared.Verdict.{Verdict}
+use Rattle.model.specs.declared.Verdict.the-variants.{Accepted}
 use Rattle.block.specs.Bytes.{Each}
 use Rattle.taskfile.specs.File.{taskOf, fileOf, IsAccepted, EntryWithin}
-use Rattle.planner.specs.Calls.{edgeVerdict, usefulWords, nextReadOf, lookedOf, regionVerdict, loadedWords, lengthOf, priceVerdict, priceLines, priceCost, blockVerdict, blockPlace, blockPlan, PlanAnswer}
+use Rattle.planner.specs.Calls.{edgeVerdict, usefulWords, nextReadOf, lookedOf, regionVerdict, loadedWords, lengthOf, priceVerdict, priceLines, priceCost, priceCharges, blockVerdict, blockPlace, blockPlan, PlanAnswer, planCharges}
 use Rattle.replaying.specs.Calls.{replayVerdict, missesAloneOf, missesWithOf}
 use Rattle.firmware.specs.Calls.{PlanCall, priceReturned, priceLeft}
-use Rattle.samelines.specs.Files.{SameLines}
+use Rattle.samelines.specs.Files.{SameLines, SameEach}
 
 -- an answer is the same for both files, as a function of whatever else is handed in
 abbrev pub Alike : {A : Type 0} → (List ℕ → A) → Type 0
@@ -74,3 +76,26 @@ Replaced =
     (file : List ℕ) (ps : List Preempter) → IsAccepted file → length ps ≡ length (taskOf file .preempters)
     → Each (λ p. EntryWithin (p .id) (p .reads)) ps → ((c : ℕ) → evicted (taskOf file) c ≡ evicted (withPreempters (taskOf file) ps) c)
     → SameLines file (fileOf (withPreempters (taskOf file) ps))
+
+-- where each preempter touches the same lines, all together do: so all the above holds
+abbrev pub EachTogether : Type 0
+EachTogether = (file other : List ℕ) → SameEach file other → SameLines file other
+
+-- and then the charges of pricing are equal, for every list and refusal
+abbrev pub PriceChargesAlike : Type 0
+PriceChargesAlike = (file other : List ℕ) → SameEach file other → priceCharges file ≡ priceCharges other
+
+-- and those of planning
+abbrev pub PlanChargesAlike : Type 0
+PlanChargesAlike =
+    (file other : List ℕ) → SameEach file other → (v w : Verdict) (p q : Plan) → PlanAnswer file v p → PlanAnswer other w q
+    → planCharges file v p ≡ planCharges other w q
+
+-- it is not enough that the preempters together touch the same lines: two files and a list whose charges differ
+pub record ChargesApart : Type 0 where
+  pub file : List ℕ
+  pub other : List ℕ
+  pub points : List ℕ
+  pub same-lines : SameLines file other
+  pub priced : priceVerdict file points ≡ Accepted
+  pub apart : priceCharges file points ≡ priceCharges other points → ⊥

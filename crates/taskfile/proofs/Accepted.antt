@@ -10,7 +10,7 @@ use native.Mathlib.Omega.{arith}
 use lib.Dec.{eqb, leb, ltb}
 use lib.ListN.{length, getD}
 use borrow.Author.Tests.{eqb-true, leb-true, ltb-true}
-use Rattle.model.specs.Task.{Block, Task, blockCount, lineCount}
+use Rattle.model.specs.Task.{Block, Preempter, Task, blockCount, lineCount, noPreempter}
 use Rattle.model.specs.Lines.{preempterReads, blockAt}
 use Rattle.model.specs.declared.Place.{Place}
 use Rattle.model.specs.declared.Place.the-variants.{Nowhere, At}
@@ -118,6 +118,15 @@ module _ (file : List ℕ) where
   pub reads-at : (i : ℕ) → i < counts file .blocks → blockAt (taskOf file) i .reads ≡ entryReads file (i + 1)
   unfolding entryReads basicOf
   reads-at i h = rw (add-comm i 1) (ap (λ (b : Block). b .reads) (block-at i h))
+
+  pub preempter-at : (i : ℕ) → i < counts file .preempters → getD (taskOf file .preempters) i noPreempter ≡ preempterOf (blockIn file (1 + counts file .blocks + i))
+  unfolding taskOf
+  preempter-at i h = getD-collect (λ k. preempterOf (blockIn file k)) (1 + counts file .blocks) (counts file .preempters) i _ h
+
+  pub preempter-reads-at : (i : ℕ) → i < counts file .preempters
+      → getD (taskOf file .preempters) i noPreempter .reads ≡ entryReads file (1 + counts file .blocks + i)
+  unfolding entryReads preempterOf
+  preempter-reads-at i h = ap (λ (p : Preempter). p .reads) (preempter-at i h)
 
 pub accepted : (file : List ℕ) → verdict file ≡ Accepted → AcceptedFile file
 unfolding verdict lengthRow checksumRow headerRow countRow blockRow headerRight blockRight entryRight blocksIn

@@ -4,7 +4,7 @@ ghost use Prim.Native.Nat.{_+_, _-_, _*_, _^_, _<_, _≤_};
 ghost use lib.ListN.{length, getD};
 ghost use Rattle.model.specs.Answers.{andThen};
 ghost use Rattle.model.specs.Sets.{bit};
-ghost use Rattle.model.specs.Task.{blockCount};
+ghost use Rattle.model.specs.Task.{blockCount, preempterCount, noPreempter};
 ghost use Rattle.model.specs.Lines.{blockAt};
 ghost use Rattle.taskfile.specs.File.{blockIn, counts, basicOf, entryReads, headerOf, taskOf, basicBlocks, preempterBlocks, lengthRight, countsInRange, scratchInRange, headerInRange, headerRight, entryRight, blockRight, checksumRow, headerRow, countRow, blockRow, IsAccepted, verdict};
 ghost use Rattle.taskfile.specs.Steps.{fourRight, LeftToTest};
@@ -285,6 +285,15 @@ pub fn preempter_blocks(file: &[u8]) -> &[u8]
 }
 
 // The functions below count the blocks of the file: block 0 is its header, and the basic blocks are blocks 1 to N.
+
+// The id of preempter i, from 0.
+pub fn preempter_id(file: &[u8], i: usize) -> u32
+    requires { ⌜ IsAccepted (now file) × (i < preempterCount (taskOf (now file))) ⌝ }
+    ensures { λ r. ⌜ r ≡ getD (taskOf (now (file .entry)) .preempters) i noPreempter .id ⌝ }
+{
+    let k = block_count(file) + 1 + i;
+    block::u32_at(file, k * 512 + 4)
+}
 
 // The time of basic block k.
 pub fn time(file: &[u8], k: usize) -> u32

@@ -57,6 +57,24 @@ mod linked {
             out_len: usize,
             place: *mut usize,
         ) -> u32;
+        #[cfg_attr(old, link_name = "old_probe_price")]
+        pub fn probe_price(
+            file: *const u8,
+            file_len: usize,
+            points: *const u16,
+            points_len: usize,
+            out: *mut u8,
+            out_len: usize,
+            place: *mut usize,
+        ) -> u32;
+        #[cfg_attr(old, link_name = "old_probe_plan")]
+        pub fn probe_plan(
+            file: *const u8,
+            file_len: usize,
+            out: *mut u8,
+            out_len: usize,
+            place: *mut usize,
+        ) -> u32;
         #[cfg_attr(old, link_name = "old_probe_replay")]
         pub fn probe_replay(
             file: *const u8,
@@ -160,6 +178,34 @@ pub fn next_read(file: &[u8], line: usize, k: usize, out: &mut [u8]) -> Returned
 pub fn region(file: &[u8], a: usize, b: usize, out: &mut [u8]) -> Returned {
     let (at, len) = (out.as_mut_ptr(), out.len());
     probe(|place| unsafe { linked::probe_region(file.as_ptr(), file.len(), a, b, at, len, place) })
+}
+
+/// The lines, the cost and the 32 charges of a list, 272 bytes.
+pub fn charged_price(file: &[u8], points: &[u16], out: &mut [u8]) -> Returned {
+    probe(|place| unsafe {
+        linked::probe_price(
+            file.as_ptr(),
+            file.len(),
+            points.as_ptr(),
+            points.len(),
+            out.as_mut_ptr(),
+            out.len(),
+            place,
+        )
+    })
+}
+
+/// The same of the plan.
+pub fn charged_plan(file: &[u8], out: &mut [u8]) -> Returned {
+    probe(|place| unsafe {
+        linked::probe_plan(
+            file.as_ptr(),
+            file.len(),
+            out.as_mut_ptr(),
+            out.len(),
+            place,
+        )
+    })
 }
 
 /// The misses without the points and with them, 16 bytes.

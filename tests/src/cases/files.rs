@@ -5,12 +5,13 @@ use crate::driver::random_side;
 use crate::inputs::damage::damage;
 use crate::inputs::numbers::{out_len, random_k, random_line, random_region};
 use crate::inputs::points::{random_list, random_points_block};
-use crate::inputs::tasks::{random_task, renumbered};
+use crate::inputs::tasks::{random_task, renumbered, renumbered_each};
 use crate::pages::Side;
 use crate::reference::bytes::{field, BLOCK};
 use crate::reference::calls::{points_in, Answer, Call, Reference};
+use crate::reference::charges::charges;
 use crate::reference::files::{Task, MOST_BLOCKS};
-use crate::reference::plans::points_of;
+use crate::reference::plans::{points_of, wrong_point};
 use crate::reference::seeds::Request;
 use crate::watch;
 
@@ -55,6 +56,7 @@ impl Trial<'_> {
         self.useful(&asked)?;
         self.searches(&asked)?;
         self.regions(&asked)?;
+        self.charges(&asked)?;
         self.replays(&asked)?;
         if asked.accepted() && self.rng.percent(40) {
             self.alike(&asked)?;
@@ -181,6 +183,40 @@ impl Trial<'_> {
         Ok(())
     }
 
+    /// The plan's charges, and those of some lists; they add up to the lines, within the limit or not.
+    fn charges(&mut self, asked: &Asked) -> Result<(), String> {
+        let planned = self.ask(asked, "charged plan", &Call::ChargedPlan)?;
+        if let (Ok(_), Ok(model), Some(least)) =
+            (planned, asked.reference.model(), asked.reference.least())
+        {
+            self.counts.charged(model, &least.points);
+        }
+        for _ in 0..if asked.accepted() { 3 } else { 1 } {
+            let list = random_list(&mut self.rng, asked.n(), &asked.good);
+            let answer = self
+                .ask(asked, "charged", &Call::Charged(&list))
+                .map_err(|text| format!("points: {:?}\n{text}", &list[..list.len().min(100)]))?;
+            let Ok(model) = asked.reference.model() else {
+                continue;
+            };
+            let points = points_in(&list);
+            if wrong_point(model.n, &points).is_some() {
+                continue;
+            }
+            let whole: u64 = charges(model, &points).iter().sum();
+            if whole != model.lines_of(&points) {
+                return Err(format!(
+                    "the reference: the charges of {points:?} add up to {whole} and not to its {} lines",
+                    model.lines_of(&points)
+                ));
+            }
+            if answer.is_ok() {
+                self.counts.charged(model, &points);
+            }
+        }
+        Ok(())
+    }
+
     fn replays(&mut self, asked: &Asked) -> Result<(), String> {
         for _ in 0..if asked.accepted() { 4 } else { 1 } {
             let list = random_list(&mut self.rng, asked.n(), &asked.good);
@@ -202,7 +238,8 @@ impl Trial<'_> {
         Ok(())
     }
 
-    /// Every call answers alike where the interrupters have other numbers, orders and ids, and touch the same lines.
+    /// Every call answers alike where the interrupters have other numbers, orders and ids, and touch the same lines; charges do where each
+    /// touches its own lines again.
     fn alike(&mut self, asked: &Asked) -> Result<(), String> {
         let (rng, n) = (&mut self.rng, asked.n());
         let file = &asked.reference.file;
@@ -219,6 +256,12 @@ impl Trial<'_> {
             Call::Region(a, b),
             Call::Replay(&list),
         ] {
+            let len = out_len(rng, asked.reference.out_len(&call));
+            self.driver.check_alike(rng, [file, &other], &call, len)?;
+        }
+        let other = renumbered_each(rng, &asked.task).file();
+        self.counts.add_if(*file != other, "each its own lines");
+        for call in [Call::ChargedPlan, Call::Charged(&list)] {
             let len = out_len(rng, asked.reference.out_len(&call));
             self.driver.check_alike(rng, [file, &other], &call, len)?;
         }

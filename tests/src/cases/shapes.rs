@@ -4,6 +4,7 @@ use crate::counts::Counts;
 use crate::inputs::tasks::tightest;
 use crate::reference::bytes::{field, seal, BLOCK};
 use crate::reference::calls::{Answer, Reference};
+use crate::reference::charges;
 use crate::reference::choice::TRY_ALL;
 use crate::reference::files::{file_refusal, Reads, Task};
 use crate::reference::joining::Pair;
@@ -26,7 +27,7 @@ impl Counts {
         self.add_if(number == 2 && place > 0, "2 above block 0");
         self.add_if(number == 5 && place <= n, "5 in a basic block");
         self.add_if(number == 5 && place > n, "5 in an interrupter");
-        let of_list = matches!(call, "price" | "replay");
+        let of_list = matches!(call, "price" | "charged" | "replay");
         self.add_if(of_list && number == 7 && place == 0, "7 at index 0");
         self.add_if(number == 7 && place > 0, "7 above index 0");
         self.add_if(number == 8 && place == 0, "8 at stretch 0");
@@ -67,6 +68,42 @@ impl Counts {
         self.add_if(model.price_of(&points) >= 1 << 32, "priced above 2^32");
         self.add_if(model.lines_of(&points) > 255, "priced lines > 255");
         self.add_if(other_n, "other N in the block");
+    }
+
+    /// A list or a plan that is charged.
+    pub fn charged(&mut self, model: &Model, points: &[usize]) {
+        let task = &model.task;
+        let charges = charges::charges(model, points);
+        let own = charges::own_lines(task);
+        let touch = |i: usize, c: usize| {
+            let numbers = &task.interrupters[i].numbers;
+            numbers.iter().any(|&m| task.line_of(m) == Some(c))
+        };
+        let m = task.interrupters.len();
+        let mut several = false;
+        for (a, b) in model.stretches(points) {
+            let loaded = model.loaded(a, b);
+            let first = |c| (0..m).find(|&i| own[i][c]).unwrap();
+            several |=
+                (0..lines::LINES).any(|c| loaded[c] && (first(c) + 1..m).any(|i| touch(i, c)));
+        }
+        let whole: u64 = charges.iter().sum();
+        self.add_if(m == 0, "charged, M 0");
+        self.add_if(m == 1 && whole > 0, "charged, M 1");
+        self.add_if(m == 32 && whole > 0, "charged, M 32");
+        let silent = task.interrupters.iter().any(|r| r.numbers.is_empty());
+        self.add_if(silent && whole > 0, "reads nothing");
+        self.add_if(several, "several touch a line");
+        self.add_if(
+            charges.iter().filter(|&&charge| charge > 0).count() > 1,
+            "charged to several",
+        );
+        self.add_if(whole > model.different_lines(points), "charged twice");
+        self.add_if(
+            charges.iter().any(|&charge| charge > 255),
+            "charge above 255",
+        );
+        self.add_if(charges[31] > 0, "charge 31");
     }
 
     pub fn region(&mut self, model: &Model, a: usize, b: usize) {

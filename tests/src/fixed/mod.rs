@@ -6,7 +6,7 @@ mod joins;
 use crate::driver::Driver;
 use crate::inputs::known::{largest, reads, seven};
 use crate::pages::Side;
-use crate::reference::bytes::{fnv1a, put, seal, BLOCK};
+use crate::reference::bytes::{fnv1a, put, seal, words, BLOCK};
 use crate::reference::calls::{points_in, Answer, Call, Reference};
 use crate::reference::files::{Scratch, Task};
 use crate::reference::lines::{empty_set, next_read, replay, set_bytes, Found, Misses};
@@ -288,6 +288,7 @@ pub fn run(driver: &mut Driver) -> Result<(), String> {
 
     scratch(&mut f)?;
     armed(&mut f)?;
+    charged(&mut f)?;
 
     let most = largest();
     f.task("the largest file", &most);
@@ -295,6 +296,9 @@ pub fn run(driver: &mut Driver) -> Result<(), String> {
     let all: Vec<u16> = (1..64).collect();
     f.anything(&Call::Replay(&all))?;
     f.anything(&Call::Replay(&[]))?;
+    f.anything(&Call::ChargedPlan)?;
+    f.anything(&Call::Charged(&all))?;
+    f.refused(&Call::Charged(&[&all[..], &[64]].concat()), 7, 63)?;
     f.refused(&Call::Replay(&[&all[..], &[64]].concat()), 7, 63)?;
     for k in [0, 1, 32, 63, 64] {
         f.anything(&Call::Useful(k))?;
@@ -463,6 +467,41 @@ fn armed(f: &mut Fixed) -> Result<(), String> {
     Ok(())
 }
 
+/// Reloads charged to interrupters: File Seven at Q 60 with interrupters that read these numbers, and the first charges of a list.
+fn charged(f: &mut Fixed) -> Result<(), String> {
+    type Row<'a> = (&'a [&'a [u32]], &'a [u64]);
+    let rows: [Row; 7] = [
+        (&[&[4, 1]], &[2]),
+        (&[&[1], &[4, 1]], &[0, 2]),
+        (&[&[4], &[4, 1]], &[2, 0]),
+        (&[&[], &[3], &[8], &[0]], &[0, 0, 2, 0]),
+        (&[&[4], &[1]], &[2, 0]),
+        (&[&[1], &[4]], &[0, 2]),
+        (&[], &[]),
+    ];
+    for (numbers, right) in rows {
+        let mut task = seven(60);
+        task.interrupters = numbers.iter().map(|numbers| reads(0, numbers)).collect();
+        f.task(
+            &format!("File Seven, interrupters reading {numbers:?}"),
+            &task,
+        );
+        let mut words_right = vec![right.iter().sum(), 10 * right.iter().sum::<u64>()];
+        words_right.extend(right);
+        words_right.resize(34, 0);
+        match f.check(&Call::Charged(&[1, 2, 3]))? {
+            Ok(answer) if answer == words(&words_right) => {}
+            _ => return Err(format!("the reference doesn't charge {right:?}")),
+        }
+        f.anything(&Call::ChargedPlan)?;
+    }
+    f.task("File Seven, Q 60", &seven(60));
+    f.refused(&Call::Charged(&[1]), 8, 1)?;
+    f.refused(&Call::Charged(&[2, 2]), 7, 1)?;
+    f.task("File Seven, Q 29", &seven(29));
+    f.refused(&Call::ChargedPlan, 6, 0)
+}
+
 fn changed_bits(f: &mut Fixed) -> Result<(), String> {
     let whole = seven(60).file();
     let points = plan_block(5, &[2, 3]);
@@ -487,6 +526,7 @@ fn changed_bits(f: &mut Fixed) -> Result<(), String> {
                 f.anything(&Call::Useful(2))?;
                 f.anything(&Call::NextRead(1, 1))?;
                 f.anything(&Call::Region(1, 3))?;
+                f.anything(&Call::Charged(&[1, 3]))?;
                 f.anything(&Call::Replay(&[1, 3]))?;
                 let mut files = [&file[..], &whole];
                 files.rotate_right(i % 2);

@@ -76,6 +76,25 @@ pub fn renumbered(rng: &mut Rng, task: &Task) -> Task {
     }
 }
 
+/// The same where each interrupter touches the lines that it touched.
+pub fn renumbered_each(rng: &mut Rng, task: &Task) -> Task {
+    let of_one = |reads: &Reads, rng: &mut Rng| {
+        let one = Task {
+            interrupters: vec![reads.clone()],
+            ..task.clone()
+        };
+        renumbered(rng, &one).interrupters.remove(0)
+    };
+    Task {
+        interrupters: task
+            .interrupters
+            .iter()
+            .map(|reads| of_one(reads, rng))
+            .collect(),
+        ..task.clone()
+    }
+}
+
 pub fn random_n(rng: &mut Rng) -> usize {
     match rng.below(200) {
         0..=9 => 1,
@@ -295,9 +314,15 @@ pub fn task_without_limit(rng: &mut Rng) -> Task {
     } else {
         None
     };
+    // Often the last touches lines that no other does.
+    let alone = !dense && rng.percent(25);
     let mut interrupters = Vec::new();
-    for _ in 0..m {
-        let count = random_count(rng, style);
+    for i in 0..m {
+        let count = if alone && i + 1 < m {
+            rng.pick(&[0, 0, 1])
+        } else {
+            random_count(rng, style)
+        };
         let mut numbers = Vec::new();
         for _ in 0..count {
             let line = pool.read(rng) as usize % s;

@@ -1,6 +1,7 @@
 //! Every call on any bytes and numbers: the refusal, or the bytes that it leaves.
 
 use super::bytes::{field, words, BLOCK};
+use super::charges::charged;
 use super::choice::{Least, TRY_ALL};
 use super::files::{file_refusal, Task};
 use super::joining::Pair;
@@ -21,6 +22,10 @@ pub enum Call<'a> {
     /// A line, and the block after which it is looked for.
     NextRead(usize, usize),
     Region(usize, usize),
+    /// Lines, price and charges of a list.
+    Charged(&'a [u16]),
+    /// Lines, price and charges of the plan.
+    ChargedPlan,
     Replay(&'a [u16]),
     /// Makes a file; this call has no other.
     Generate(Request),
@@ -85,6 +90,7 @@ impl Reference {
             Call::Useful(_) => 64,
             Call::NextRead(..) => 24,
             Call::Region(..) => 72,
+            Call::Charged(_) | Call::ChargedPlan => 272,
             Call::Replay(_) => 16,
             Call::Generate(request) => request.length() as usize,
             Call::Join(second) => self.with(second).length(),
@@ -148,6 +154,8 @@ impl Reference {
                 bytes.extend(words(&[model.length(a, b)]));
                 Ok(bytes)
             }
+            Call::Charged(list) => self.charged(&points_in(list)),
+            Call::ChargedPlan => self.charged_plan(),
             Call::Replay(list) => self.replayed(&points_in(list)),
             Call::Generate(_) | Call::Join(_) => unreachable!(),
         }
@@ -200,6 +208,32 @@ impl Reference {
             points,
         };
         Ok(plan.block())
+    }
+
+    /// The list's refusals: 7 at its wrong point, then 8 at its stretch.
+    fn charged(&self, points: &[usize]) -> Answer {
+        let model = self.model()?;
+        given(wrong_point(model.n, points).and_then(|i| refuse(7, i)))?;
+        let above = model.first_above(points).and_then(|i| refuse(8, i));
+        given(above.but("a list above Q charged", None))?;
+        Ok(charged(model, points, points))
+    }
+
+    fn charged_plan(&self) -> Answer {
+        let model = self.model()?;
+        match self.least() {
+            Some(least) => {
+                let none = Vec::new();
+                let list = (&least.points)
+                    .but(
+                        "a plan charged for the last of the least lists",
+                        &least.last,
+                    )
+                    .but("a plan charged for no points", &none);
+                Ok(charged(model, &least.points, list))
+            }
+            None => Err(refuse(6, 0).unwrap()),
+        }
     }
 
     fn replayed(&self, list: &[usize]) -> Answer {

@@ -3,6 +3,7 @@
 
 pub mod bytes;
 pub mod calls;
+pub mod charges;
 pub mod choice;
 pub mod files;
 pub mod joining;
@@ -14,8 +15,5 @@ pub mod seeds;
 pub use ::calls::Refusal;
 
 fn refuse(number: u32, place: usize) -> Option<Refusal> {
-    Some(Refusal {
-        number,
-        place,
-    })
+    Some(Refusal { number, place })
 }

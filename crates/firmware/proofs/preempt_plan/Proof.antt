@@ -34,8 +34,8 @@ returns c =
     let args = told .before .before .before .before .before .args in
     plan-output (args .file .now) (args .block .now) _ _ (sym (told .before .before .check-output .ensures) ∙ refused) (rw refused at (c .returned .ensures))
 
-plan-requires : tie.Need-plan-requires
-plan-requires c κs = search needs
+least-plan-requires : tie.Need-least-plan-requires
+least-plan-requires c κs = search needs
 
 verdict-place-requires : tie.Need-verdict-place-requires
 verdict-place-requires c κs = search needs
@@ -46,9 +46,9 @@ leave-requires c κs =
     let answer = place .before .before in
     let told = answer .before in
     let file = told .before .before .before .before .before .args .file .now in
-    let v = answer .plan .result .verdict in
-    let p = answer .plan .result .plan in
-    (output-size _ _ (row told), plan-stores file v p (answer .plan .ensures), omega (arith, place .verdict-place .ensures, plan-most file v p (answer .plan .ensures)))
+    let v = answer .least-plan .result .verdict in
+    let p = answer .least-plan .result .plan in
+    (output-size _ _ (row told), plan-stores file v p (answer .least-plan .ensures), omega (arith, place .verdict-place .ensures, plan-most file v p (answer .least-plan .ensures)))
 
 same-length : tie.Need-same-length
 same-length c = search needs
@@ -60,7 +60,7 @@ returns-2 c =
     let answer = place .before .before in
     let told = answer .before in
     let args = told .before .before .before .before .before .args in
-    plan-call (args .file .now) (args .block .now) (answer .plan .result .verdict) (answer .plan .result .plan) _ _ (row told) (answer .plan .ensures)
+    plan-call (args .file .now) (args .block .now) (answer .least-plan .result .verdict) (answer .least-plan .result .plan) _ _ (row told) (answer .least-plan .ensures)
     (rw (place .verdict-place .ensures) at (left .leave .ensures .0)) (left .leave .ensures .1)
 
 pub preempt-plan-spec : {M : Type 1} → statement M
@@ -72,7 +72,7 @@ preempt-plan-spec =
     enum-told-2
     returned-requires
     returns
-    plan-requires
+    least-plan-requires
     verdict-place-requires
     leave-requires
     same-length

@@ -1,13 +1,14 @@
--- `planner::plan` meets its contract, answer by answer.
+-- `planner::plan` meets its contract: the plan's own list is charged.
 -- Assumes nothing.
-use mathlib.Core.Path.{sym, _∙_}
-use Rattle.model.proofs.Verdicts.{never-both}
+use mathlib.Core.Path.{refl, _∙_}
 use borrow.Author.Needs.{needs}
+use Rattle.planner.specs.Calls.{planCharges}
+use Rattle.planner.proofs.Planned.{plan-accepted, plan-right, count-chosen, plan-count}
 use Rattle.planner.proofs.plan.Statement.{statement}
 use Rattle.planner.proofs.plan.Tie as tie
 
-check-requires : tie.Need-check-requires
-check-requires c κs = search needs
+least-plan-requires : tie.Need-least-plan-requires
+least-plan-requires c κs = search needs
 
 enum-told : tie.Need-enum-told
 enum-told c = search needs
@@ -15,34 +16,39 @@ enum-told c = search needs
 enum-told-2 : tie.Need-enum-told-2
 enum-told-2 c = search needs
 
-refused-plan-requires : tie.Need-refused-plan-requires
-refused-plan-requires c κs = search needs
-
 returns : tie.Need-returns
-returns c =
-    let told = c .before .enum-told2 .given .1 in
-    let check = c .before .before .before .check .ensures in
-    record {
-      refused = λ x e. (c .refused-plan .ensures .0 ∙ check ∙ e, c .refused-plan .ensures .1);
-      planned = λ e. absurd (never-both (sym e ∙ sym check ∙ told));
-    }
+unfolding planCharges
+returns c = (c .before .before .before .least-plan .ensures, rw (c .enum-told2 .given .1) refl)
 
-least-plan-requires : tie.Need-least-plan-requires
-least-plan-requires c κs = sym (c .before .before .check .ensures) ∙ c .enum-told .given .1
+cast-count : tie.Need-cast-count
+cast-count c = search needs
+
+array-share-prefix-points : tie.Need-array-share-prefix-points
+array-share-prefix-points c = plan-count _ _ _ (c .before .before .before .before .before .least-plan .ensures) (c .before .before .enum-told .given .1)
+
+slice-aggregate-charges-of : tie.Need-slice-aggregate-charges-of
+slice-aggregate-charges-of c = count-chosen _ _ _ (c .before .before .before .before .before .before .least-plan .ensures) (c .before .before .before .enum-told .given .1)
+
+charges-of-requires : tie.Need-charges-of-requires
+charges-of-requires c κs =
+    let answer = c .before .before .before .before .before .before .least-plan .ensures in
+    let told = c .before .before .before .enum-told .given .1 in
+    (plan-accepted _ _ _ answer told, plan-right _ _ _ answer told)
 
 returns-2 : tie.Need-returns-2
-returns-2 c =
-    let accepted = sym (c .before .before .before .check .ensures) ∙ c .before .enum-told .given .1 in
-    record { refused = λ x e. absurd (never-both (sym accepted ∙ e)); planned = λ e. c .least-plan .ensures }
+unfolding planCharges
+returns-2 c = (c .before .before .before .before .before .before .before .least-plan .ensures, c .charges-of .ensures ∙ rw (c .before .before .before .before .enum-told .given .1) refl)
 
 pub plan-spec : {M : Type 1} → statement M
 plan-spec =
     tie.close
     (tie.spec
-    check-requires
+    least-plan-requires
     enum-told
     enum-told-2
-    refused-plan-requires
     returns
-    least-plan-requires
+    cast-count
+    array-share-prefix-points
+    slice-aggregate-charges-of
+    charges-of-requires
     returns-2)

@@ -22,6 +22,9 @@ returns c = search needs
 block-count-requires : tie.Need-block-count-requires
 block-count-requires c κs = sym (c .before .before .check .ensures) ∙ c .enum-told .given .1
 
+preempter-count-requires : tie.Need-preempter-count-requires
+preempter-count-requires c κs = block-count-requires (c .before) κs
+
 show-small-requires : tie.Need-show-small-requires
 show-small-requires c κs = search needs
 
@@ -38,5 +41,6 @@ show-task-spec =
     enum-told-2
     returns
     block-count-requires
+    preempter-count-requires
     show-small-requires
     returns-2)

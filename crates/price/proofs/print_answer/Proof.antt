@@ -28,17 +28,11 @@ both : (c : tie.After-enum-told)
 unfolding priceVerdict
 both c = both-accepted _ _ (sym (c .before .before .price .ensures .0) ∙ c .enum-told .given .1)
 
-header-requires : tie.Need-header-requires
-header-requires c κs = both c .0
-
-block-count-requires : tie.Need-block-count-requires
-block-count-requires c κs = header-requires (c .before) κs
-
-print-list-requires : tie.Need-print-list-requires
-print-list-requires c κs =
-    let t = taskOf (c .before .before .before .before .before .before .before .before .args .file .now) in
-    let ps = c .before .before .before .before .before .first .result .now in
-    let accepted = both (c .before .before) in
+print-price-requires : tie.Need-print-price-requires
+print-price-requires c κs =
+    let t = taskOf (c .before .before .before .before .before .before .args .file .now) in
+    let ps = c .before .before .before .first .result .now in
+    let accepted = both c in
     (accepted .0, lowest-none (rightPoint (blockCount t)) 0 (steps 0 ps) (accepted-well-formed t ps (accepted .1)))
 
 enum-known-verdict : tie.Need-enum-known-verdict
@@ -60,9 +54,7 @@ print-answer-spec =
     first-requires
     price-requires
     enum-told
-    header-requires
-    block-count-requires
-    print-list-requires
+    print-price-requires
     enum-known-verdict
     print-refusal-requires
     returns

@@ -9,34 +9,34 @@ use native.Mathlib.Numerals.{add-one}
 use lib.ListN.{length, getD}
 use borrow.Author.Needs.{needs}
 use Rattle.model.specs.Task.{blockCount}
-use Rattle.model.specs.Lines.{blockAt}
+use Rattle.model.specs.Lines.{blockAt, evicted}
 use Rattle.model.proofs.LineStates.{lies-on, lies-nowhere}
-use Rattle.model.proofs.Loads.{loadedBy, loaded-skip}
+use Rattle.model.proofs.Loads.{loadedBy, loaded-few, loaded-skip}
 use Rattle.model.proofs.ReadOrder.{edge, edge-suc}
 use Rattle.taskfile.specs.File.{taskOf}
 use Rattle.taskfile.proofs.Accepted as accepted-file
 use Rattle.cacheline.proofs.Below.{line-below}
 use Rattle.pricing.proofs.Pricing.{startOf}
 use Rattle.pricing.proofs.Walk.{Known, known-none, known-region, known-block, known-skip, known-more, known-loads}
-use Rattle.pricing.proofs.Walk.{AtEdge, at-start, edges, next-region, next-edge, at-end, loaded-few}
+use Rattle.pricing.proofs.Walk.{AtEdge, at-start, edges, next-region, next-edge, at-end}
 use Rattle.pricing.proofs.count_lines.Statement.{statement}
 use Rattle.pricing.proofs.count_lines.Tie as tie
 
 abbrev Inv-loop2 : tie.InvT-loop2
-Inv-loop2 file points lines cache blocks evicted held₀ since₀ region count₀ i here k reads j₀ held since count j =
+Inv-loop2 file points lines cache blocks marks held₀ since₀ region count₀ i here k reads j₀ held since count j =
     (j ≤ reads) × Known (taskOf file) (edge (taskOf file) i + j) (suc i) region (startOf (taskOf file) points region) held since ×
-    (count ≡ loadedBy (taskOf file) (startOf (taskOf file) points region) (edge (taskOf file) i + j))
+    (count ≡ loadedBy (taskOf file) (evicted (taskOf file)) (startOf (taskOf file) points region) (edge (taskOf file) i + j))
 
 abbrev μ-loop2 : tie.MeasureT-loop2
-μ-loop2 file points lines cache blocks evicted held₀ since₀ region count₀ i here k reads j₀ held since count j = reads - j
+μ-loop2 file points lines cache blocks marks held₀ since₀ region count₀ i here k reads j₀ held since count j = reads - j
 
 abbrev Inv-loop : tie.InvT-loop
-Inv-loop file points lines₀ cache blocks evicted held₀ since₀ region₀ count₀ i₀ lines held since region count i =
+Inv-loop file points lines₀ cache blocks marks held₀ since₀ region₀ count₀ i₀ lines held since region count i =
     (i ≤ blocks) × Known (taskOf file) (edge (taskOf file) i) i region (startOf (taskOf file) points region) held since ×
     AtEdge (taskOf file) points i region count lines
 
 abbrev μ-loop : tie.MeasureT-loop
-μ-loop file points lines₀ cache blocks evicted held₀ since₀ region₀ count₀ i₀ lines held since region count i = blocks - i
+μ-loop file points lines₀ cache blocks marks held₀ since₀ region₀ count₀ i₀ lines held since region count i = blocks - i
 
 geometry-of-requires : tie.Need-geometry-of-requires Inv-loop2 μ-loop2 Inv-loop μ-loop
 geometry-of-requires c κs = search needs
@@ -149,7 +149,7 @@ add-count c =
     let inner = c .before .before .before .before .before .before .before .before .before .loop2 in
     let args = c .before .before .before .before .before .before .before .before .before .before .before .before .before .before .before .before .before .before .before .before .before .before .args in
     let t = taskOf (args .file .now) in
-    omega (arith, c .before .loads .ensures .1, inner .inv .2, loaded-few t (startOf t (args .points .now) (c .before .before .before .before .before .before .before .before .before .before .before .before .if1 .region)) (edge t (c .before .before .before .before .before .before .before .before .before .before .before .before .before .before .before .loop .i) + inner .j))
+    omega (arith, c .before .loads .ensures .1, inner .inv .2, loaded-few t (evicted t) (startOf t (args .points .now) (c .before .before .before .before .before .before .before .before .before .before .before .before .if1 .region)) (edge t (c .before .before .before .before .before .before .before .before .before .before .before .before .before .before .before .loop .i) + inner .j))
 
 mul-held : tie.Need-mul-held Inv-loop2 μ-loop2 Inv-loop μ-loop
 mul-held c = omega (arith, below (c .before .before .before))
@@ -194,7 +194,7 @@ loop2-again c =
     rw (w .2, w .3, w .4, next) (
       omega (arith, taken),
       known-skip t (outer .i) (inner .j) (number .result) inside counted number-is inside-region (inner .inv .1) nowhere,
-      inner .inv .2 ∙ sym (loaded-skip t (outer .i) (inner .j) (number .result) inside counted number-is _ inside-region nowhere),
+      inner .inv .2 ∙ sym (loaded-skip t (evicted t) (outer .i) (inner .j) (number .result) inside counted number-is _ inside-region nowhere),
     ))
     (λ w.
     let on = w .1 .given .0 .0 in
@@ -204,7 +204,7 @@ loop2-again c =
       omega (arith, taken),
       known-more t (outer .i) (inner .j) (number .result) inside counted number-is inside-region (inner .inv .1) on in-cache lies _ (add-one (joined .if1 .region)),
       ap₂ _+_ (inner .inv .2) (w .4 .ensures .0 ∙ rw (marks .ensures .1 on, add-one) refl) ∙
-          sym (known-loads t (outer .i) (inner .j) (number .result) inside counted number-is inside-region (inner .inv .1) on in-cache lies),
+          sym (known-loads t (outer .i) (inner .j) (number .result) inside counted number-is inside-region (inner .inv .1) on in-cache lies (evicted t)),
     ))
     (c .match .came)
 

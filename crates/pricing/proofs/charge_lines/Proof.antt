@@ -1,0 +1,337 @@
+-- `pricing::charge_lines` meets its contract. Both loops keep what the lines hold and since when, the regions counted, and the charges.
+-- Assumes nothing.
+use Prim.Native.Nat.{suc, _+_, _-_, _%_, _≤_, _<_}
+use mathlib.Core.Path.{_≡_, refl, sym, ap, ap₂, _∙_}
+use mathlib.Core.Logic.{⊎-elim}
+use native.Mathlib.Nat.{add-zero}
+use native.Mathlib.Omega.{arith}
+use native.Mathlib.Numerals.{add-one}
+use lib.ListN.{length, getD, List·getD-eq-default}
+use borrow.Author.Needs.{needs}
+use Rattle.model.specs.Task.{blockCount, preempterCount}
+use Rattle.model.specs.Lines.{blockAt, evicted}
+use Rattle.model.proofs.LineStates.{lies-on, lies-nowhere}
+use Rattle.model.proofs.Loads.{loadedBy, loaded-few, loaded-skip}
+use Rattle.model.proofs.ReadOrder.{edge, edge-suc}
+use Rattle.taskfile.specs.File.{taskOf}
+use Rattle.taskfile.proofs.Accepted as accepted-file
+use Rattle.cacheline.proofs.Below.{line-below}
+use Rattle.pricing.proofs.Pricing.{startOf}
+use Rattle.pricing.proofs.Walk.{Known, known-none, known-region, known-block, known-skip, known-more, known-loads}
+use Rattle.pricing.proofs.Walk.{AtEdge, at-start, edges, next-region, next-edge, at-last, at-end}
+use Rattle.pricing.proofs.Charging.{Charged, charged-none, charged-few, charged-region, charged-all, mark-tells, charged-skip, charged-more}
+use Rattle.pricing.proofs.charge_lines.Statement.{statement}
+use Rattle.pricing.proofs.charge_lines.Tie as tie
+
+abbrev Inv-loop2 : tie.InvT-loop2
+Inv-loop2 file points lines charges₀ cache blocks first held₀ since₀ region count₀ i here k reads j₀ charges held since count j =
+    (j ≤ reads) × Known (taskOf file) (edge (taskOf file) i + j) (suc i) region (startOf (taskOf file) points region) held since ×
+    (count ≡ loadedBy (taskOf file) (evicted (taskOf file)) (startOf (taskOf file) points region) (edge (taskOf file) i + j)) ×
+    Charged (taskOf file) points region (edge (taskOf file) i + j) charges
+
+abbrev μ-loop2 : tie.MeasureT-loop2
+μ-loop2 file points lines charges₀ cache blocks first held₀ since₀ region count₀ i here k reads j₀ charges held since count j = reads - j
+
+abbrev Inv-loop : tie.InvT-loop
+Inv-loop file points lines₀ charges₀ cache blocks first held₀ since₀ region₀ count₀ i₀ lines charges held since region count i =
+    (i ≤ blocks) × Known (taskOf file) (edge (taskOf file) i) i region (startOf (taskOf file) points region) held since ×
+    AtEdge (taskOf file) points i region count lines × Charged (taskOf file) points region (edge (taskOf file) i) charges
+
+abbrev μ-loop : tie.MeasureT-loop
+μ-loop file points lines₀ charges₀ cache blocks first held₀ since₀ region₀ count₀ i₀ lines charges held since region count i = blocks - i
+
+geometry-of-requires : tie.Need-geometry-of-requires Inv-loop2 μ-loop2 Inv-loop μ-loop
+geometry-of-requires c κs = search needs
+
+block-count-requires : tie.Need-block-count-requires Inv-loop2 μ-loop2 Inv-loop μ-loop
+block-count-requires c κs = search needs
+
+mark-first-requires : tie.Need-mark-first-requires Inv-loop2 μ-loop2 Inv-loop μ-loop
+mark-first-requires c κs = search needs
+
+loop-holds : tie.Need-loop-holds Inv-loop2 μ-loop2 Inv-loop μ-loop
+loop-holds c =
+    let start = c .before .before .before .before .before .before in
+    let t = taskOf (start .args .file .now) in
+    let ps = start .args .points .now in
+    (omega arith, known-none t, at-start t ps (start .pre .2), rw (start .pre .3) (charged-none t ps))
+
+edge-after-requires : tie.Need-edge-after-requires Inv-loop2 μ-loop2 Inv-loop μ-loop
+edge-after-requires c κs = search needs
+
+add-region : tie.Need-add-region Inv-loop2 μ-loop2 Inv-loop μ-loop
+add-region c = omega (arith, c .before .before .before .loop .inv .2 .index)
+
+-- the region of the block after edge i, and what is known of the lines there
+entered : (c : tie.Joined1 Inv-loop2 μ-loop2 Inv-loop μ-loop)
+    → let args = c .before .before .before .before .before .before .before .before .before .before .args in
+    let l = c .before .before .before .loop in
+    let t = taskOf (args .file .now) in
+    let ps = args .points .now in
+    AtEdge t ps (l .i) (c .if1 .region) (c .if1 .count) (l .lines) × (l .i < getD ps (c .if1 .region) (blockCount t)) ×
+    Known t (edge t (l .i)) (suc (l .i)) (c .if1 .region) (startOf t ps (c .if1 .region)) (l .held) (l .since) ×
+    Charged t ps (c .if1 .region) (edge t (l .i)) (l .charges)
+entered c =
+    let start = c .before .before .before .before .before .before .before .before .before .before in
+    let t = taskOf (start .args .file .now) in
+    let ps = start .args .points .now in
+    let l = c .before .before .before .loop in
+    let blocks = c .before .before .before .before .before .before .block-count .ensures .0 in
+    let least : 0 < blockCount t = omega (arith, c .before .before .before .before .before .before .block-count .ensures) in
+    let end : c .before .edge-after .result ≡ getD ps (l .region) (blockCount t) = c .before .edge-after .ensures ∙ ap (getD ps (l .region)) blocks in
+    ⊎-elim
+    (λ w.
+    let ends : getD ps (l .region) (blockCount t) ≡ l .i = sym end ∙ w .0 .taken in
+    let inside : l .i < blockCount t = omega (arith, c .before .before .loop-test .taken) in
+    let next = next-region t ps least (start .pre .1) (l .inv .2) ends inside in
+    rw (w .1, w .2) (
+      next .0,
+      next .2,
+      rw (next .1) (known-block (known-region (l .inv .1))),
+      charged-region (l .inv .3) (l .inv .2 .index) ends (l .inv .2 .passed) (omega arith) (next .1),
+    ))
+    (λ w.
+    let other : getD ps (l .region) (blockCount t) ≡ l .i → ⊥ = λ e. w .0 .left (end ∙ e) in
+    rw (w .1, w .2) (l .inv .2, omega (arith, l .inv .2 .end), known-block (l .inv .1), l .inv .3))
+    (c .if1 .came)
+
+-- there are at most 64 regions
+few : (c : tie.Joined1 Inv-loop2 μ-loop2 Inv-loop μ-loop) → c .if1 .region < 64
+few c =
+    let start = c .before .before .before .before .before .before .before .before .before .before in
+    let file = start .args .file .now in
+    let at = edges (taskOf file) (start .args .points .now) (omega (arith, c .before .before .before .before .before .before .block-count .ensures)) (start .pre .1) (entered c .0) in
+    omega (arith, at .0, at .1, at .2, accepted-file.few-blocks file (start .pre .0))
+
+add-here : tie.Need-add-here Inv-loop2 μ-loop2 Inv-loop μ-loop
+add-here c = omega (arith, few (c .before))
+
+cast-here : tie.Need-cast-here Inv-loop2 μ-loop2 Inv-loop μ-loop
+cast-here c = omega (arith, few (c .before))
+
+add-k : tie.Need-add-k Inv-loop2 μ-loop2 Inv-loop μ-loop
+add-k c = omega arith
+
+read-count-requires : tie.Need-read-count-requires Inv-loop2 μ-loop2 Inv-loop μ-loop
+read-count-requires c κs =
+    let start = c .before .before .before .before .before .before .before .before .before .before .before in
+    (start .pre .0, omega arith, omega (arith, accepted-file.block-count (start .args .file .now)))
+
+loop2-holds : tie.Need-loop2-holds Inv-loop2 μ-loop2 Inv-loop μ-loop
+loop2-holds c =
+    let at = entered (c .before .before) in
+    (omega arith, rw add-zero (at .2), at .0 .counted ∙ rw add-zero refl, rw add-zero (at .3))
+
+read-requires : tie.Need-read-requires Inv-loop2 μ-loop2 Inv-loop μ-loop
+read-requires c κs =
+    let start = c .before .before .before .before .before .before .before .before .before .before .before .before .before .before in
+    ((start .pre .0, omega arith, omega (arith, accepted-file.block-count (start .args .file .now))), omega arith)
+
+line-of-requires : tie.Need-line-of-requires Inv-loop2 μ-loop2 Inv-loop μ-loop
+line-of-requires c κs = search needs
+
+enum-told : tie.Need-enum-told Inv-loop2 μ-loop2 Inv-loop μ-loop
+enum-told c = search needs
+
+enum-known-c : tie.Need-enum-known-c Inv-loop2 μ-loop2 Inv-loop μ-loop
+enum-known-c c = search needs
+
+-- the line is one of the arrays
+below : (c : tie.After-known-told Inv-loop2 μ-loop2 Inv-loop μ-loop) → c .before .c .given .0 .0 < 512
+below c = let line = c .before .before .before .line-of in line-below (line .result) (c .before .c .given .0 .0) (c .before .c .given .1) (line .ensures .1)
+
+mul-line : tie.Need-mul-line Inv-loop2 μ-loop2 Inv-loop μ-loop
+mul-line c = omega (arith, below c)
+
+array-copy-out-line : tie.Need-array-copy-out-line Inv-loop2 μ-loop2 Inv-loop μ-loop
+array-copy-out-line c = omega (arith, below c)
+
+array-read-mark : tie.Need-array-read-mark Inv-loop2 μ-loop2 Inv-loop μ-loop
+array-read-mark c = omega (arith, below (c .before))
+
+array-read-loads : tie.Need-array-read-loads Inv-loop2 μ-loop2 Inv-loop μ-loop
+array-read-loads c = omega (arith, below (c .before))
+
+loads-requires : tie.Need-loads-requires Inv-loop2 μ-loop2 Inv-loop μ-loop
+loads-requires c κs = search needs
+
+cast-owner : tie.Need-cast-owner Inv-loop2 μ-loop2 Inv-loop μ-loop
+cast-owner c = search needs
+
+add-count : tie.Need-add-count Inv-loop2 μ-loop2 Inv-loop μ-loop
+add-count c =
+    let inner = c .before .before .before .before .before .before .before .before .before .loop2 in
+    let args = c .before .before .before .before .before .before .before .before .before .before .before .before .before .before .before .before .before .before .before .before .before .before .args in
+    let t = taskOf (args .file .now) in
+    omega (arith, c .before .loads .ensures .1, inner .inv .2, loaded-few t (evicted t) (startOf t (args .points .now) (c .before .before .before .before .before .before .before .before .before .before .before .before .if1 .region)) (edge t (c .before .before .before .before .before .before .before .before .before .before .before .before .before .before .before .loop .i) + inner .j))
+
+mul-charges : tie.Need-mul-charges Inv-loop2 μ-loop2 Inv-loop μ-loop
+mul-charges c = omega arith
+
+element-copy-out-charges : tie.Need-element-copy-out-charges Inv-loop2 μ-loop2 Inv-loop μ-loop
+element-copy-out-charges c = omega arith
+
+add-charges : tie.Need-add-charges Inv-loop2 μ-loop2 Inv-loop μ-loop
+add-charges c =
+    let inner = c .before .before .before .before .before .before .before .before .before .before .loop2 in
+    let joined = c .before .before .before .before .before .before .before .before .before .before .before .before .before in
+    let mark = getD (joined .before .before .before .before .mark-first .last .0) (c .before .before .before .before .before .c .given .0 .0) 0 in
+    omega (arith, c .before .before .loads .ensures .1, few joined, charged-few (inner .inv .3) (mark % 32) (omega arith))
+
+element-write-charges : tie.Need-element-write-charges Inv-loop2 μ-loop2 Inv-loop μ-loop
+element-write-charges c = omega arith
+
+mul-held : tie.Need-mul-held Inv-loop2 μ-loop2 Inv-loop μ-loop
+mul-held c = omega (arith, below (c .before .before .before .before))
+
+array-set-from-held : tie.Need-array-set-from-held Inv-loop2 μ-loop2 Inv-loop μ-loop
+array-set-from-held c = omega (arith, below (c .before .before .before .before))
+
+array-write-since : tie.Need-array-write-since Inv-loop2 μ-loop2 Inv-loop μ-loop
+array-write-since c = omega (arith, below (c .before .before .before .before))
+
+add-j : tie.Need-add-j Inv-loop2 μ-loop2 Inv-loop μ-loop
+add-j c = omega arith
+
+loop2-less : tie.Need-loop2-less Inv-loop2 μ-loop2 Inv-loop μ-loop
+loop2-less c = omega arith
+
+loop2-again : tie.Need-loop2-again Inv-loop2 μ-loop2 Inv-loop μ-loop
+loop2-again c =
+    let turn = c .before .before .before in
+    let inner = turn .before .loop2 in
+    let joined = turn .before .before .before .before in
+    let outer = joined .before .before .before .loop in
+    let start = joined .before .before .before .before .before .before .before .before .before .before in
+    let file = start .args .file .now in
+    let t = taskOf file in
+    let inside-region = entered joined .0 .passed in
+    let cache = joined .before .before .before .before .before .before .before .geometry-of in
+    let marks = joined .before .before .before .before .mark-first in
+    let number = c .before .before .read in
+    let line = c .before .line-of in
+    let taken = turn .loop2-test .taken in
+    let inside : outer .i < blockCount t =
+    omega (arith, joined .before .before .loop-test .taken, joined .before .before .before .before .before .before .block-count .ensures .0) in
+    let reads-are = accepted-file.reads-at file (outer .i) (omega (arith, accepted-file.block-count file)) in
+    let counted : inner .j < length (blockAt t (outer .i) .reads) = rw reads-are (omega (arith, taken, turn .before .before .read-count .ensures .0)) in
+    let number-is : getD (blockAt t (outer .i) .reads) (inner .j) 0 ≡ number .result = rw reads-are (sym (number .ensures)) in
+    let next : edge t (outer .i) + (inner .j + 1) ≡ suc (edge t (outer .i) + inner .j) = omega arith in
+    let is = sym (line .ensures .0 t (cache .ensures)) in
+    let most : preempterCount t ≤ 32 = omega (arith, accepted-file.preempter-count file, accepted-file.accepted file (start .pre .0) .preempters-most) in
+    ⊎-elim
+    (λ w.
+    let nowhere = lies-nowhere t (number .result) (is ∙ w .1 .given .1) in
+    rw (w .2, w .3, w .4, w .5, next) (
+      omega (arith, taken),
+      known-skip t (outer .i) (inner .j) (number .result) inside counted number-is inside-region (inner .inv .1) nowhere,
+      inner .inv .2 ∙ sym (loaded-skip t (evicted t) (outer .i) (inner .j) (number .result) inside counted number-is _ inside-region nowhere),
+      charged-skip t (outer .i) (inner .j) (number .result) inside counted number-is inside-region (inner .inv .3) nowhere,
+    ))
+    (λ w.
+    let on = w .1 .given .0 .0 in
+    let lies = lies-on t (number .result) on (is ∙ w .1 .given .1) in
+    let in-cache = line-below (line .result) on (w .1 .given .1) (line .ensures .1) in
+    let marked = marks .ensures .1 on in-cache in
+    let loads = w .4 .ensures .0 ∙ rw (mark-tells t most on _ marked, add-one) refl in
+    rw (w .7, w .8, w .9, w .10, next) (
+      omega (arith, taken),
+      known-more t (outer .i) (inner .j) (number .result) inside counted number-is inside-region (inner .inv .1) on in-cache lies _ (add-one (joined .if1 .region)),
+      ap₂ _+_ (inner .inv .2) loads ∙
+          sym (known-loads t (outer .i) (inner .j) (number .result) inside counted number-is inside-region (inner .inv .1) on in-cache lies (evicted t)),
+      charged-more t (outer .i) (inner .j) (number .result) inside counted number-is inside-region (inner .inv .3) (inner .inv .1) on in-cache lies most _ _ marked loads,
+    ))
+    (c .match .came)
+
+mul-lines : tie.Need-mul-lines Inv-loop2 μ-loop2 Inv-loop μ-loop
+mul-lines c = omega (arith, few (c .before .before .before .before))
+
+element-write-lines : tie.Need-element-write-lines Inv-loop2 μ-loop2 Inv-loop μ-loop
+element-write-lines c = few (c .before .before .before .before)
+
+add-i : tie.Need-add-i Inv-loop2 μ-loop2 Inv-loop μ-loop
+add-i c = omega arith
+
+loop-less : tie.Need-loop-less Inv-loop2 μ-loop2 Inv-loop μ-loop
+loop-less c = omega arith
+
+loop-again : tie.Need-loop-again Inv-loop2 μ-loop2 Inv-loop μ-loop
+loop-again c =
+    let start = c .before .before .before .before .before .before .before .before .before .before .before .before .before .before in
+    let file = start .args .file .now in
+    let t = taskOf file in
+    let joined = c .before .before .before .before in
+    let outer = c .before .before .before .before .before .before .before .loop in
+    let inner = c .before .loop2 in
+    let inside : outer .i < blockCount t = omega (arith, c .before .before .before .before .before .before .loop-test .taken, c .before .before .before .before .before .before .before .before .before .before .block-count .ensures .0) in
+    let reads-are = accepted-file.reads-at file (outer .i) (omega (arith, accepted-file.block-count file)) in
+    let whole : length (blockAt t (outer .i) .reads) ≡ inner .j =
+    rw reads-are (omega (arith, c .loop2-test .left, inner .inv .0, c .before .before .read-count .ensures .0)) in
+    let there : edge t (outer .i) + inner .j ≡ edge t (suc (outer .i)) = rw (edge-suc t (outer .i) inside, whole) refl in
+    let at = entered joined in (
+      omega (arith, c .before .before .before .before .before .before .loop-test .taken),
+      rw (add-one, ← there) (inner .inv .1),
+      next-edge t (start .args .points .now) (omega arith) (start .pre .1) (at .0) (inner .count) (accepted-file.few-blocks file (start .pre .0)) (at .1) (inner .inv .2 ∙ rw there refl),
+      rw (add-one, ← there) (inner .inv .3),
+    )
+
+returns : tie.Need-returns Inv-loop2 μ-loop2 Inv-loop μ-loop
+returns c =
+    let start = c .before .before .before .before .before .before .before .before in
+    let l = c .before .loop in
+    let t = taskOf (start .args .file .now) in
+    let ps = start .args .points .now in
+    let least : 0 < blockCount t = omega (arith, c .before .before .before .before .block-count .ensures) in
+    let end : l .i ≡ blockCount t = omega (arith, c .before .before .before .before .block-count .ensures .0) in
+    let last = at-last t ps least (start .pre .1) (l .inv .2) end in
+    let ends : getD ps (l .region) (blockCount t) ≡ l .i = List·getD-eq-default ps (blockCount t) {n = l .region} (omega arith) ∙ sym end in (
+      at-end t ps least (start .pre .1) (l .inv .2) end,
+      charged-all (l .inv .3) (l .inv .2 .index) ends (l .inv .2 .passed) (omega arith) last,
+    )
+
+pub charge-lines-spec : {M : Type 1} → statement M
+charge-lines-spec =
+    tie.close
+    (tie.spec
+    Inv-loop2
+    μ-loop2
+    Inv-loop
+    μ-loop
+    geometry-of-requires
+    block-count-requires
+    mark-first-requires
+    loop-holds
+    edge-after-requires
+    add-region
+    add-here
+    cast-here
+    add-k
+    read-count-requires
+    loop2-holds
+    read-requires
+    line-of-requires
+    enum-told
+    enum-known-c
+    mul-line
+    array-copy-out-line
+    array-read-mark
+    array-read-loads
+    loads-requires
+    cast-owner
+    add-count
+    mul-charges
+    element-copy-out-charges
+    add-charges
+    element-write-charges
+    mul-held
+    array-set-from-held
+    array-write-since
+    add-j
+    loop2-less
+    loop2-again
+    mul-lines
+    element-write-lines
+    add-i
+    loop-less
+    loop-again
+    returns)

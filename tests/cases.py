@@ -1,4 +1,4 @@
-# Writes the inputs and the expected outputs of the programs taskfile_cases, planner_cases and join.
+# Writes the inputs and the expected outputs of the programs taskfile_cases, planner_cases, join and trace.
 # Everything here is computed from documents 01 and 02, and nothing from the programs.
 import os
 import shutil
@@ -437,8 +437,49 @@ def write_join():
     write("join", files, ["ticket", "archive"], dict(files)["ticket-archive"])
 
 
+# A loop over a table of eight words at 1000, with its code at 400 and a counter at 2FFC.
+TRACE = """2 400
+0 2FFC
+2 404
+0 1000
+2 408
+0 1004
+2 40c
+1 2FFC
+2 400
+0 2ffc
+2 404
+0 1008
+2 408
+0 100C
+2 40C
+1 2ffc
+2 410
+1 00001020
+"""
+
+
+def traced(text, size, g, ticks, s, q, r, ident):
+    """The task of a trace whose lines are all right."""
+    numbers = [int(line.split(" ")[1], 16) // size for line in text.splitlines()]
+    groups = [numbers[i : i + g] for i in range(0, len(numbers), g)]
+    return Task(s, q, r, ident, [(len(group) * ticks, group) for group in groups], [])
+
+
+def write_trace():
+    numbers = [16, 8, 10, 64, 200, 25, 11]
+    folder = os.path.join(ROOT, "trace")
+    with open(os.path.join(folder, "stdin"), "w") as out:
+        out.write(TRACE)
+    with open(os.path.join(folder, "args"), "w") as out:
+        out.write("".join(f"{number}\n" for number in numbers))
+    with open(os.path.join(folder, "stdout"), "wb") as out:
+        out.write(traced(TRACE, *numbers).file())
+
+
 if __name__ == "__main__":
     write_taskfile_cases()
     write_planner_cases()
     write_price()
     write_join()
+    write_trace()

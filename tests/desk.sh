@@ -9,6 +9,7 @@ high=crates/planner_cases/data/high-70
 damaged=crates/taskfile_cases/data
 joined=crates/join/data
 programs=$*
+input=/dev/null
 failed=0
 errors=$(mktemp)
 made=$(mktemp)
@@ -45,7 +46,7 @@ usage() {
 reports() {
     line=$1
     shift
-    printed=$(runs "$@" </dev/null 2>"$errors")
+    printed=$(runs "$@" <"$input" 2>"$errors")
     [ -z "$printed" ] && [ "$(cat "$errors")" = "$line" ] && return
     failed=1
     printf '%s\nshould report\n%s\nand printed\n%s\n' "$*" "$line" "$printed"
@@ -56,7 +57,7 @@ reports() {
 makes() {
     file=$1
     shift
-    runs "$@" </dev/null >"$file" 2>"$errors"
+    runs "$@" <"$input" >"$file" 2>"$errors"
     [ -s "$file" ] && [ ! -s "$errors" ] && return
     failed=1
     printf '%s\nshould write a file, and printed\n' "$*"
@@ -318,6 +319,55 @@ usage generate 1 1 0 1 0
 usage generate 1 1 0 1 0 0 0
 usage generate 4294967296 1 0 1 0 0
 usage generate 1 1 0 1 0 x
+
+# a file from a trace, read from standard input: 10, then 13 at the lowest malformed line, then 14
+input=$parts/text
+given() {
+    printf "$1" >"$input"
+}
+# worked by hand: of 1200 and 1a00, in blocks of 256 bytes, 18 and 26; one basic block of 2 times 3 ticks
+given '0 1200\n2 1A00\n'
+makes "$made" trace 256 124 3 8 6 10 5
+[ "$(wc -c <"$made")" -eq 1024 ] || { failed=1; echo 'a file of two records is not 1024 bytes'; }
+prints "$made" 'task 5 blocks 1 points 0 lines 0 cost 0
+region 0 1 length 6' plan
+prints "$made" 'read 18 looked 1' next_read 2 0
+prints "$made" 'misses 2 with points 2' replay
+makes "$made" trace 256 1 3 8 6 10 5
+[ "$(wc -c <"$made")" -eq 1536 ] || { failed=1; echo 'a file of two basic blocks is not 1536 bytes'; }
+prints "$made" 'task 5 blocks 2 points 0 lines 0 cost 0
+region 0 2 length 6' plan
+for numbers in '0 1 1 1 0 0 0' '1 0 1 1 0 0 0' '1 125 1 1 0 0 0' '1 1 1 0 0 0 0' '1 1 1 513 0 0 0'; do
+    reports 'refused 10 at 0' trace $numbers
+done
+for line in '\n' '3 0\n' '0\t0\n' '0  0\n' ' 0 0\n' '0 0 \n' '0 0\r\n' '0 +1\n' '0 0x1\n' '0 \n' '0 123456789\n' '0 g\n' '0 \200\n' '0 1\000\n' '0 1'; do
+    given "0 1\n$line"
+    reports 'refused 13 at 1' trace 1 1 1 1 0 0 0
+done
+given '0 1\n0\n0 2\nx\n'
+reports 'refused 13 at 1' trace 1 1 4294967295 1 0 0 0
+given ''
+reports 'refused 14 at 0' trace 1 1 1 1 0 0 0
+given '0 1\n0 2\n'
+reports 'refused 14 at 0' trace 1 2 2147483648 1 0 0 0
+makes "$made" trace 1 1 4294967295 1 0 0 0
+# a short block's time is that of its own records
+given '0 1\n'
+makes "$made" trace 1 2 4294967295 1 0 0 0
+yes '0 1' | head -n 7936 >"$input"
+makes "$made" trace 1 124 1 1 0 0 0
+[ "$(wc -c <"$made")" -eq 33280 ] || { failed=1; echo 'the largest file from a trace is not 33280 bytes'; }
+yes '0 1' | head -n 7937 >"$input"
+reports 'refused 14 at 0' trace 1 124 1 1 0 0 0
+# a malformed line is found far behind what a file holds
+{ yes '2 00ABcdef' | head -n 300000; echo '2 00ABcdefg'; } >"$input"
+reports 'refused 13 at 300000' trace 1 124 1 1 0 0 0
+input=/dev/null
+usage trace
+usage trace 1 1 1 1 0 0
+usage trace 1 1 1 1 0 0 0 0
+usage trace 4294967296 1 1 1 0 0 0
+usage trace 1 1 1 1 0 0 -1
 
 # two files joined: the smaller Q and Q2, the first's id, the basic blocks of both, then the preempters of both
 writes $joined/ticket-archive join $joined/ticket $joined/archive

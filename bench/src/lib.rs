@@ -12,3 +12,4 @@ pub mod regions;
 pub mod replays;
 pub mod searches;
 pub mod timing;
+pub mod trace;

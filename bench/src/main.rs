@@ -8,7 +8,7 @@ use bench::files::{
     any, any_points, drawn, growing, planned, reread, rotated, seven, Again, Rng, Shape, LARGEST,
 };
 use bench::timing::{keep, medians};
-use bench::{charges, fast, generate, join, regions, replays, searches};
+use bench::{charges, fast, generate, join, regions, replays, searches, trace};
 use calls::Returned;
 use std::hint::black_box;
 
@@ -437,6 +437,44 @@ fn join_row(name: &str, first: &[Vec<u8>], second: &[Vec<u8>]) {
     say_checks(&both, "a join", &[("planner", join[0]), ("plain", join[1])]);
 }
 
+/// Traces of so many random addresses of that many bits, digits in either case, made files over the one before.
+fn trace_row(name: &str, count: usize, bits: u32, g: u32) {
+    const SEEDS: usize = 8;
+    let line = |rng: &mut Rng, i: usize| {
+        let address = (rng.below(1 << 16) << 16 | rng.below(1 << 16)) >> (32 - bits);
+        match rng.below(2) {
+            0 => format!("{} {address:x}\n", i % 3),
+            _ => format!("{} {address:X}\n", i % 3),
+        }
+    };
+    let text = |seed| {
+        let mut rng = Rng(seed as u64);
+        (0..count).map(|i| line(&mut rng, i)).collect::<String>()
+    };
+    let texts: Vec<String> = (0..SEEDS).map(text).collect();
+    let numbers = [32, g, 3, 256, 5000, 20, 11];
+    let mut files = [(); 2].map(|_| vec![0xFF; 33280]);
+    let [ours, plain] = black_box(&mut files);
+    for text in &texts {
+        let answers = [
+            calls::trace(text.as_bytes(), numbers, ours),
+            trace::trace(text.as_bytes(), numbers, plain),
+        ];
+        assert!(answers[0].1 == answers[1].1, "{name}: lengths differ");
+        hold_alike(name, &[(answers[0].0, &*ours), (answers[1].0, &*plain)]);
+    }
+    println!("{name}: {count} lines, {} bytes", texts[0].len());
+    let traced = medians(
+        ROUNDS,
+        SEEDS,
+        [
+            &mut |i| keep(calls::trace(texts[i].as_bytes(), numbers, ours).0),
+            &mut |i| keep(trace::trace(texts[i].as_bytes(), numbers, plain).0),
+        ],
+    );
+    say("trace", traced[0], &[("plain", traced[1])]);
+}
+
 fn main() {
     hold_random();
     println!(
@@ -491,6 +529,9 @@ fn main() {
         &rotated(|seed| drawn(&other, seed + 8)),
     );
     join_row("File Seven twice", &seven, &seven);
+    trace_row("the largest trace", 7936, 32, 124);
+    trace_row("the largest trace, short addresses", 7936, 16, 124);
+    trace_row("a trace of ten lines", 10, 32, 4);
     println!("growth, Q without limit:");
     for (name, files) in growing() {
         plan_row(&name, &files);

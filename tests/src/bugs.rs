@@ -36,7 +36,7 @@ pub fn with<T>(name: &'static str, work: impl FnOnce() -> T) -> T {
 }
 
 /// The sources that ask for switches.
-const ASKING: [&str; 10] = [
+const ASKING: &[&str] = &[
     include_str!("reference/calls.rs"),
     include_str!("reference/charges.rs"),
     include_str!("reference/choice.rs"),
@@ -46,6 +46,7 @@ const ASKING: [&str; 10] = [
     include_str!("reference/plans.rs"),
     include_str!("reference/regions.rs"),
     include_str!("reference/seeds.rs"),
+    include_str!("reference/traces.rs"),
     include_str!("stand_in.rs"),
 ];
 

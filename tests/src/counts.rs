@@ -2,7 +2,7 @@
 
 pub struct Counts(Vec<(String, u64)>);
 
-const SHAPES: [&str; 108] = [
+const SHAPES: [&str; 123] = [
     "2 above block 0",
     "5 in a basic block",
     "5 in an interrupter",
@@ -111,6 +111,21 @@ const SHAPES: [&str; 108] = [
     "U of a part",
     "U grows by joining",
     "three files joined",
+    "traced N 64",
+    "7936 records",
+    "short last block",
+    "time at 2^32 - 1",
+    "13 at line 0",
+    "13 above line 0",
+    "13, no line feed",
+    "several malformed",
+    "9 before 10",
+    "10 before 13",
+    "13 before 14",
+    "14, no record",
+    "14 above 64 g",
+    "14 by a time",
+    "traced file planned",
 ];
 
 impl Counts {
@@ -144,6 +159,7 @@ impl Counts {
                     "11", "12",
                 ][..],
             ),
+            ("trace", &["0", "9", "10", "13", "14"][..]),
         ] {
             all.extend(answers.iter().map(|a| (format!("{call}: {a}"), 0)));
         }

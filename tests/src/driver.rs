@@ -23,11 +23,12 @@ pub enum Planner {
 }
 
 impl Planner {
-    fn answer(&mut self, file: &[u8], call: &Call, out: &mut [u8]) -> Returned {
+    /// What a call returns, and the length that it answers, if it does.
+    fn answer(&mut self, file: &[u8], call: &Call, out: &mut [u8]) -> (Returned, Option<usize>) {
         if let Planner::Wrong(program) = self {
             return program.answer(file, call, out);
         }
-        match *call {
+        let returned = match *call {
             Call::Plan => calls::plan(file, out),
             Call::Price(points) => calls::price(file, points, out),
             Call::Useful(k) => calls::useful(file, k, out),
@@ -45,7 +46,12 @@ impl Planner {
                 r,
             }) => calls::generate([seed, n, m, s, q, r], out),
             Call::Join(second) => calls::join(file, second, out),
-        }
+            Call::Trace(text, settings) => {
+                let (returned, length) = calls::trace(text, settings.numbers(), out);
+                return (returned, Some(length));
+            }
+        };
+        (returned, None)
     }
 }
 
@@ -53,6 +59,7 @@ impl Planner {
 #[derive(PartialEq)]
 struct Left {
     returned: Returned,
+    length: Option<usize>,
     before: Vec<u8>,
     after: Vec<u8>,
 }
@@ -128,10 +135,14 @@ impl Driver {
                 self.other.lend(second, random_side(rng));
                 Call::Join(self.other.lent())
             }
+            Call::Trace(text, settings) => {
+                self.other.lend(text, random_side(rng));
+                Call::Trace(self.other.lent(), settings)
+            }
             call => call,
         };
         let lane = match call {
-            Call::Generate(_) | Call::Join(_) => &mut self.made,
+            Call::Generate(_) | Call::Join(_) | Call::Trace(..) => &mut self.made,
             _ => &mut self.out,
         };
         lane.lend_out(out_len, random_side(rng));
@@ -142,16 +153,19 @@ impl Driver {
         let before = bytes.to_vec();
         self.calls += 1;
         let points = match call {
-            Call::Price(_) | Call::Charged(_) | Call::Replay(_) => self.other.lent(),
+            Call::Price(_) | Call::Charged(_) | Call::Replay(_) | Call::Trace(..) => {
+                self.other.lent()
+            }
             _ => &[],
         };
         watch::call(said(&call, out_len), points);
-        let returned = self
+        let (returned, length) = self
             .planner
             .answer(self.file.lent(), &call, lane.lent_mut());
         let (before, after) = within(&before, lane.bytes(), from, out_len)?;
         Ok(Left {
             returned,
+            length,
             before,
             after,
         })
@@ -172,15 +186,21 @@ impl Driver {
             let [right, got] = [returned, left.returned].map(returned_said);
             return Err(format!("expected: {right}\ngot: {got}"));
         }
-        let right = answer.as_ref().unwrap_or(&left.before);
-        if left.after != *right {
+        let made = answer.as_ref().map_or(&[][..], |bytes| bytes);
+        if let Some(length) = left.length.filter(|&length| length != made.len()) {
+            let right = made.len();
+            return Err(format!("expected: the length {right}\ngot: {length}"));
+        }
+        let mut right = left.before.clone();
+        right[..made.len()].copy_from_slice(made);
+        if left.after != right {
             let i = (0..out_len).find(|&i| left.after[i] != right[i]).unwrap();
             return Err(format!(
                 "returned: {}\nexpected: {} at byte {i} of the output\ngot: {}\nthe output expected:\n{}got:\n{}",
                 returned_said(returned),
                 right[i],
                 left.after[i],
-                hex(right),
+                hex(&right),
                 hex(&left.after)
             ));
         }
@@ -239,6 +259,7 @@ fn said(call: &Call, out_len: usize) -> String {
         Call::Replay(list) => format!("probe_replay, {} points", list.len()),
         Call::Generate(request) => format!("probe_generate, {request:?}"),
         Call::Join(second) => format!("probe_join, second of {}", second.len()),
+        Call::Trace(text, settings) => format!("probe_trace, {} bytes, {settings:?}", text.len()),
     };
     format!("{call}, output of {out_len}")
 }

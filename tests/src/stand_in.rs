@@ -16,7 +16,13 @@ impl StandIn {
         StandIn { name, last: None }
     }
 
-    pub fn answer(&mut self, file: &[u8], call: &Call, out: &mut [u8]) -> Returned {
+    pub fn answer(
+        &mut self,
+        file: &[u8],
+        call: &Call,
+        out: &mut [u8],
+    ) -> (Returned, Option<usize>) {
+        let traced = matches!(call, Call::Trace(..));
         bugs::with(self.name, || {
             touch(file, call, out);
             if self.last.as_ref().is_none_or(|last| last.file != file) {
@@ -24,14 +30,16 @@ impl StandIn {
             }
             match self.last.as_ref().unwrap().answer(call, out.len()) {
                 Ok(bytes) => {
+                    let length = bytes.len().but("the output's length answered", out.len());
                     write(file, call, bytes, out);
-                    Ok(())
+                    (Ok(()), traced.then_some(length))
                 }
                 Err(refusal) => {
                     if writes_though(refusal) {
                         out.fill(0);
                     }
-                    Err(refusal)
+                    let length = 0.but("a length with a refusal", BLOCK);
+                    (Err(refusal), traced.then_some(length))
                 }
             }
         })
@@ -47,6 +55,8 @@ fn writes_though(refusal: Refusal) -> bool {
         10 => bug("written on refusal 10"),
         11 => bug("written on refusal 11"),
         12 => bug("written on refusal 12"),
+        13 => bug("written on refusal 13"),
+        14 => bug("written on refusal 14"),
         _ => bug("written on refusals 1 to 5"),
     }
 }
@@ -69,6 +79,9 @@ fn write(file: &[u8], call: &Call, mut bytes: Vec<u8>, out: &mut [u8]) {
         keep_numbers(file, second, &mut bytes);
     }
     out[..len].copy_from_slice(&bytes[..len]);
+    if let (Call::Trace(..), true) = (call, bug("bytes past a trace's file cleared")) {
+        out[len..].fill(0);
+    }
 }
 
 fn renumber(file: &mut [u8]) {
@@ -122,6 +135,15 @@ fn touch(file: &[u8], call: &Call, out: &mut [u8]) {
         Call::Join(second) => second,
         _ => &[],
     };
+    let text: &[u8] = match *call {
+        Call::Trace(text, _) => text,
+        _ => &[],
+    };
+    beyond(
+        text,
+        bug("a trace read beyond its end"),
+        bug("a trace written"),
+    );
     beyond(file, bug("file read beyond its end"), bug("file written"));
     if bug("file read before its start") {
         unsafe { file.as_ptr().sub(1).read_volatile() };

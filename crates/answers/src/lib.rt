@@ -29,6 +29,8 @@ pub fn refusal_number(refusal: Refusal) -> u32
         Refusal::OutOfRange => 10,
         Refusal::Mismatch => 11,
         Refusal::TooManyBlocks => 12,
+        Refusal::WrongTraceLine(_) => 13,
+        Refusal::WrongTrace => 14,
     }
 }
 
@@ -49,6 +51,8 @@ pub fn refusal_place(refusal: Refusal) -> usize
         Refusal::OutOfRange => 0,
         Refusal::Mismatch => 0,
         Refusal::TooManyBlocks => 0,
+        Refusal::WrongTraceLine(line) => line,
+        Refusal::WrongTrace => 0,
     }
 }
 

@@ -15,11 +15,11 @@ use Rattle.model.specs.declared.Input.the-variants.{First, Second}
 use Rattle.model.specs.declared.Place.{Place}
 use Rattle.model.specs.declared.Place.the-variants.{Nowhere, At}
 use Rattle.model.specs.declared.Refusal.{Refusal}
-use Rattle.model.specs.declared.Refusal.the-variants.{Length, Checksum, WrongHeader, BlockCount, WrongBlock, NoPlacement, Argument, AboveLimit, Output, OutOfRange, Mismatch, TooManyBlocks}
+use Rattle.model.specs.declared.Refusal.the-variants.{Length, Checksum, WrongHeader, BlockCount, WrongBlock, NoPlacement, Argument, AboveLimit, Output, OutOfRange, Mismatch, TooManyBlocks, WrongTraceLine, WrongTrace}
 use Rattle.model.specs.declared.Verdict.{Verdict}
 use Rattle.model.specs.declared.Verdict.the-variants.{Accepted, Refused}
 
-number-most : (r : Refusal) → number r ≤ 12
+number-most : (r : Refusal) → number r ≤ 14
 number-most Length = omega arith
 number-most (Checksum k) = omega arith
 number-most WrongHeader = omega arith
@@ -32,8 +32,10 @@ number-most Output = omega arith
 number-most OutOfRange = omega arith
 number-most Mismatch = omega arith
 number-most TooManyBlocks = omega arith
+number-most (WrongTraceLine i) = omega arith
+number-most WrongTrace = omega arith
 
-pub verdict-number-most : (v : Verdict) → verdictNumber v ≤ 12
+pub verdict-number-most : (v : Verdict) → verdictNumber v ≤ 14
 verdict-number-most Accepted = omega arith
 verdict-number-most (Refused r) = number-most r
 

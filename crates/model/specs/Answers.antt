@@ -11,7 +11,7 @@ use Rattle.model.specs.declared.Input.the-variants.{First, Second}
 use Rattle.model.specs.declared.Place.{Place}
 use Rattle.model.specs.declared.Place.the-variants.{Nowhere, At}
 use Rattle.model.specs.declared.Refusal.{Refusal}
-use Rattle.model.specs.declared.Refusal.the-variants.{Length, Checksum, WrongHeader, BlockCount, WrongBlock, NoPlacement, Argument, AboveLimit, Output, OutOfRange, Mismatch, TooManyBlocks}
+use Rattle.model.specs.declared.Refusal.the-variants.{Length, Checksum, WrongHeader, BlockCount, WrongBlock, NoPlacement, Argument, AboveLimit, Output, OutOfRange, Mismatch, TooManyBlocks, WrongTraceLine, WrongTrace}
 use Rattle.model.specs.declared.Verdict.{Verdict}
 use Rattle.model.specs.declared.Verdict.the-variants.{Accepted, Refused}
 
@@ -29,8 +29,10 @@ number Output = 9
 number OutOfRange = 10
 number Mismatch = 11
 number TooManyBlocks = 12
+number (WrongTraceLine i) = 13
+number WrongTrace = 14
 
--- the place: the lowest such block, index or region, and 0 where the table says so
+-- the place: the lowest such block, index, region or line, and 0 where the table says so
 abbrev pub place : Refusal → ℕ
 place Length = 0
 place (Checksum k) = k
@@ -44,6 +46,8 @@ place Output = 0
 place OutOfRange = 0
 place Mismatch = 0
 place TooManyBlocks = 0
+place (WrongTraceLine i) = i
+place WrongTrace = 0
 
 -- the blocks of the largest file
 abbrev pub mostBlocks : ℕ

@@ -32,6 +32,8 @@ pub enum Refusal {
     OutOfRange,
     Mismatch,
     TooManyBlocks,
+    WrongTraceLine(usize),
+    WrongTrace,
 }
 
 // The lowest place at which something does not hold.

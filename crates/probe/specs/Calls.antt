@@ -11,6 +11,7 @@ use Rattle.model.specs.declared.Plan.{Plan}
 use Rattle.model.specs.declared.Verdict.{Verdict}
 use Rattle.block.specs.Bytes.{les}
 use Rattle.planner.specs.Calls.{PlanAnswer, planCharges}
+use Rattle.tracing.specs.declared.Settings.{Settings}
 
 -- the answer of a call that asks for a buffer of this size: 9 first
 unfoldable pub probed : ℕ → Verdict → List ℕ → Verdict
@@ -33,3 +34,8 @@ pub record PlanLeft (file out : List ℕ) (r place : ℕ) (after : List ℕ) : T
   pub number-is : r ≡ verdictNumber (probed 272 verdict out)
   pub place-is : place ≡ verdictPlace (probed 272 verdict out)
   pub left-is : after ≡ left 272 verdict (plan .lines ∷ plan .cost ∷ planCharges file verdict plan) out
+
+-- a trace's size, g, ticks, S, Q, R and id
+abbrev pub settingsOf : ℕ → ℕ → ℕ → ℕ → ℕ → ℕ → ℕ → Settings
+settingsOf size group ticks lines limit reload id =
+    record { size = size; group = group; ticks = ticks; «line_count» = lines; limit = limit; reload = reload; id = id }

@@ -1,5 +1,6 @@
 // For tests: the useful lines of an edge, the next read of a line, the loaded lines and the length of a region, the charges of a list and of a plan,
-// the misses of a replay, files from a seed and joined files, through the public calls. Each call returns the number of its refusal and leaves the place, 0 and 0 where it accepts.
+// the misses of a replay, files from a seed, joined files and files from a trace, through the public calls. Each call returns the number of its refusal and leaves the
+// place, 0 and 0 where it accepts.
 // A set is left as its eight words; every number takes eight bytes, the lowest first.
 ghost use mathlib.Core.List.{[], _∷_, _++_};
 ghost use mathlib.Core.Path.{_≡_};
@@ -11,10 +12,12 @@ ghost use Rattle.planner.specs.Calls.{edgeVerdict, usefulWords, nextReadOf, loo
 ghost use Rattle.replaying.specs.Calls.{replayVerdict, missesAloneOf, missesWithOf};
 ghost use Rattle.testload.specs.Calls.{generateVerdict, generated};
 ghost use Rattle.joining.specs.Calls.{joinVerdict, joinPlace, joinLeft};
-ghost use Rattle.probe.specs.Calls.{probed, left, nextNumbers, PlanLeft};
+ghost use Rattle.tracing.specs.Calls.{traceAnswer, traceOutput};
+ghost use Rattle.probe.specs.Calls.{probed, left, nextNumbers, PlanLeft, settingsOf};
 use lineset::LineSet;
 use model::Next;
 use model::Verdict;
+use tracing::Settings;
 
 // The useful lines at edge k, in 64 bytes.
 #[no_mangle]
@@ -145,6 +148,42 @@ pub extern "C" fn probe_join(first: &[u8], second: &[u8], out: &mut [u8], place:
     let joined = joining::join(first, second, out);
     let verdict = joined.verdict;
     *place = joined.place;
+    answers::verdict_number(verdict)
+}
+
+// The task file of a trace, and its length.
+#[no_mangle]
+pub extern "C" fn probe_trace(
+    text: &[u8],
+    size: u32,
+    group: u32,
+    ticks: u32,
+    lines: u32,
+    limit: u32,
+    reload: u32,
+    id: u32,
+    out: &mut [u8],
+    length: &mut usize,
+    place: &mut usize,
+) -> u32
+    ensures { λ r. ⌜ r ≡ verdictNumber (traceAnswer (settingsOf size group ticks lines limit reload id) (now (text .entry)) (now (out .entry)) .verdict) ⌝ }
+    ensures { λ _. ⌜ now (place .exit) ≡ verdictPlace (traceAnswer (settingsOf size group ticks lines limit reload id) (now (text .entry)) (now (out .entry)) .verdict) ⌝ }
+    ensures { λ _. ⌜ now (length .exit) ≡ traceAnswer (settingsOf size group ticks lines limit reload id) (now (text .entry)) (now (out .entry)) .length ⌝ }
+    ensures { λ _. ⌜ now (out .exit) ≡ traceOutput (settingsOf size group ticks lines limit reload id) (now (text .entry)) (now (out .entry)) ⌝ }
+{
+    let settings = Settings {
+        size,
+        group,
+        ticks,
+        line_count: lines,
+        limit,
+        reload,
+        id,
+    };
+    let traced = tracing::trace(text, settings, out);
+    let verdict = traced.verdict;
+    *length = traced.length;
+    *place = answers::verdict_place(verdict);
     answers::verdict_number(verdict)
 }
 

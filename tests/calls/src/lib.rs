@@ -107,6 +107,22 @@ mod linked {
             out_len: usize,
             place: *mut usize,
         ) -> u32;
+        #[cfg_attr(old, link_name = "old_probe_trace")]
+        pub fn probe_trace(
+            text: *const u8,
+            text_len: usize,
+            size: u32,
+            g: u32,
+            ticks: u32,
+            s: u32,
+            q: u32,
+            r: u32,
+            id: u32,
+            out: *mut u8,
+            out_len: usize,
+            length: *mut usize,
+            place: *mut usize,
+        ) -> u32;
     }
 }
 
@@ -244,4 +260,29 @@ pub fn join(first: &[u8], second: &[u8], out: &mut [u8]) -> Returned {
             place,
         )
     })
+}
+
+/// The task file of a trace, by size, g, ticks, S, Q, R and id, and the length that is answered.
+pub fn trace(text: &[u8], numbers: [u32; 7], out: &mut [u8]) -> (Returned, usize) {
+    let [size, g, ticks, s, q, r, id] = numbers;
+    let mut length = usize::MAX;
+    let (at, len) = (out.as_mut_ptr(), out.len());
+    let returned = probe(|place| unsafe {
+        linked::probe_trace(
+            text.as_ptr(),
+            text.len(),
+            size,
+            g,
+            ticks,
+            s,
+            q,
+            r,
+            id,
+            at,
+            len,
+            &mut length,
+            place,
+        )
+    });
+    (returned, length)
 }

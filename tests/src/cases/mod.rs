@@ -1,8 +1,9 @@
-//! One random case: a file from a seed, every call on one file, and files joined.
+//! One random case: a file from a seed, every call on one file, files joined, and a file from a trace.
 
 mod files;
 mod made;
 mod shapes;
+mod traced;
 
 use crate::counts::Counts;
 use crate::driver::Driver;
@@ -25,5 +26,6 @@ pub fn run(driver: &mut Driver, counts: &mut Counts, seed: u64, case: u64) -> Re
     };
     trial.generated()?;
     trial.file()?;
-    trial.joined()
+    trial.joined()?;
+    trial.traced()
 }

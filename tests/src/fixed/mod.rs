@@ -2,6 +2,7 @@
 //! bit of File Seven and of one plan block.
 
 mod joins;
+mod traces;
 
 use crate::driver::Driver;
 use crate::inputs::known::{largest, reads, seven};
@@ -331,6 +332,7 @@ pub fn run(driver: &mut Driver) -> Result<(), String> {
     f.refused(&Call::Plan, 1, 0)?;
 
     joins::run(&mut f)?;
+    traces::run(&mut f)?;
     changed_bits(&mut f)
 }
 

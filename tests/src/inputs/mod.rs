@@ -7,3 +7,4 @@ pub mod pairs;
 pub mod points;
 pub mod requests;
 pub mod tasks;
+pub mod traces;

@@ -9,6 +9,7 @@ use super::lines::{next_read, replay, set_bytes};
 use super::plans::{plan_block_refusal, points_of, wrong_point, Plan};
 use super::regions::Model;
 use super::seeds::Request;
+use super::traces::{Settings, OUTPUT};
 use super::{refuse, Refusal};
 use crate::bugs::{bug, But};
 use std::cell::OnceCell;
@@ -31,6 +32,8 @@ pub enum Call<'a> {
     Generate(Request),
     /// Joins the file and this one.
     Join(&'a [u8]),
+    /// Makes a file of a trace; this call has no other.
+    Trace(&'a [u8], Settings),
 }
 
 pub type Answer = Result<Vec<u8>, Refusal>;
@@ -94,6 +97,7 @@ impl Reference {
             Call::Replay(_) => 16,
             Call::Generate(request) => request.length() as usize,
             Call::Join(second) => self.with(second).length(),
+            Call::Trace(..) => OUTPUT,
         }
     }
 
@@ -104,7 +108,7 @@ impl Reference {
         }
     }
 
-    /// Refusals in the documents' order: 9 first, but last where a file is made.
+    /// Refusals in the documents' order: 9 first, but last where a file is made from a seed or joined. The output begins with what is left.
     pub fn answer(&self, call: &Call, out_len: usize) -> Answer {
         match *call {
             Call::Generate(request) => {
@@ -114,6 +118,10 @@ impl Reference {
             Call::Join(second) => {
                 given(self.with(second).refused(out_len))?;
                 Ok(self.with(second).file())
+            }
+            Call::Trace(text, settings) => {
+                given(settings.refused(text, out_len))?;
+                Ok(settings.file(text))
             }
             _ => {
                 let right = self.out_len(call);
@@ -157,7 +165,7 @@ impl Reference {
             Call::Charged(list) => self.charged(&points_in(list)),
             Call::ChargedPlan => self.charged_plan(),
             Call::Replay(list) => self.replayed(&points_in(list)),
-            Call::Generate(_) | Call::Join(_) => unreachable!(),
+            Call::Generate(_) | Call::Join(_) | Call::Trace(..) => unreachable!(),
         }
     }
 

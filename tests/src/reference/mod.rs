@@ -11,6 +11,7 @@ pub mod lines;
 pub mod plans;
 pub mod regions;
 pub mod seeds;
+pub mod traces;
 
 pub use ::calls::Refusal;
 

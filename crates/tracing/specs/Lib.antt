@@ -1,0 +1,5 @@
+pub mod Din
+pub mod Traces
+pub mod Scans
+pub mod Calls
+pub mod Statements

@@ -1,0 +1,41 @@
+-- What is shown of traces beside the contracts (document 02, item 11). Assumes nothing.
+use Prim.Native.Nat.{ℕ, _^_, _<_}
+use mathlib.Core.Path.{_≡_}
+use mathlib.Core.List.{List, _++_}
+use lib.ListN.{length, take}
+use Rattle.model.specs.declared.Verdict.the-variants.{Accepted}
+use Rattle.taskfile.specs.File.{taskOf, IsAccepted}
+use Rattle.tracing.specs.Din.{addressesOf}
+use Rattle.tracing.specs.Traces.{tracedTask}
+use Rattle.tracing.specs.Scans.{started, scanned, kept}
+use Rattle.tracing.specs.Calls.{traceVerdict, traceAnswer, traceOutput, scanAnswer, scanOutput}
+use Rattle.tracing.specs.declared.Scan.{Scan}
+use Rattle.tracing.specs.declared.Settings.{Settings}
+
+-- the settings are numbers of 32 bits
+pub record Narrow (s : Settings) : Type 0 where
+  pub limit : s .limit < 2 ^ 32
+  pub reload : s .reload < 2 ^ 32
+  pub id : s .id < 2 ^ 32
+
+-- the file that is made, the first bytes of the output, is accepted, and its task is the traced one
+abbrev pub TracedAccepted : Type 0
+TracedAccepted =
+    (s : Settings) (text out : List ℕ) → Narrow s → traceVerdict s text out ≡ Accepted
+    → let file = take (traceAnswer s text out .length) (traceOutput s text out) in
+    IsAccepted file × (taskOf file ≡ tracedTask s (addressesOf text))
+
+-- a piece and then another come to both
+abbrev pub Pieces : Type 0
+Pieces =
+    (s : Scan) (first second addresses : List ℕ)
+    → (scanned s (first ++ second) ≡ scanned (scanned s first) second)
+    × (kept s (first ++ second) addresses ≡ kept (scanned s first) second (kept s first addresses))
+
+-- what is made of a scanned text is what the call makes of it, whatever stood where the addresses are kept, if there is room for more of them
+-- than a file has
+abbrev pub ScannedWhole : Type 0
+ScannedWhole =
+    (s : Settings) (text addresses out : List ℕ) → length text < 2 ^ 64 → 7936 < length addresses
+    → let scan = scanned started text in let found = kept started text addresses in
+    (scanAnswer s scan found out ≡ traceAnswer s text out) × (scanOutput s scan found out ≡ traceOutput s text out)

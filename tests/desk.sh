@@ -169,6 +169,31 @@ prices $seven-armed-all-40 "$at_2_3" '0 id 1 lines 2' 2 3
 prints $seven-armed-all-40 "$at_1_2_3" plan
 prints $seven-armed-all-70 'refused 8 at 1' price 1
 
+# all fitting lists by number: number and price
+from_2='2 10
+3 10
+4 10
+5 20
+6 20
+7 20'
+prints $seven-29 '' lists
+prints $seven-30 '7 20' lists
+prints $seven-40 '6 20
+7 20' lists
+prints $seven-60 "$from_2" lists
+prints $seven-70 "1 10
+$from_2" lists
+prints crates/planner_cases/data/one-60 '0 0' lists
+prints crates/planner_cases/data/one-59 '' lists
+prints /dev/null 'refused 1 at 0' lists
+prints $damaged/sum-block-3 'refused 2 at 3' lists
+prints $largest 'refused 15 at 0' lists
+# every list of 16 blocks fits, and nothing is reloaded: M is 0
+makes "$parts/short" generate 1 16 0 512 4294967295 1
+prints "$parts/short" "$(seq -f '%.0f 0' 0 32767)" lists
+makes "$parts/long" generate 1 17 0 512 4294967295 1
+prints "$parts/long" 'refused 15 at 0' lists
+
 # the last read of line 0 is its only reload
 prints crates/planner_cases/data/last-read 'task 7 blocks 3 points 2 lines 1 cost 10
 region 0 1 length 20

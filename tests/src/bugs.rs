@@ -43,6 +43,7 @@ const ASKING: &[&str] = &[
     include_str!("reference/files.rs"),
     include_str!("reference/joining.rs"),
     include_str!("reference/lines.rs"),
+    include_str!("reference/listing.rs"),
     include_str!("reference/plans.rs"),
     include_str!("reference/regions.rs"),
     include_str!("reference/seeds.rs"),

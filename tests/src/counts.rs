@@ -2,7 +2,7 @@
 
 pub struct Counts(Vec<(String, u64)>);
 
-const SHAPES: [&str; 123] = [
+const SHAPES: [&str; 137] = [
     "2 above block 0",
     "5 in a basic block",
     "5 in an interrupter",
@@ -126,6 +126,20 @@ const SHAPES: [&str; 123] = [
     "14 above 64 g",
     "14 by a time",
     "traced file planned",
+    "list at the start",
+    "list further on",
+    "no list fits",
+    "past the last list",
+    "start of 2^(N-1)",
+    "start above 2^32",
+    "list of N 1",
+    "list of N 16",
+    "last list of N 16",
+    "all lists fit",
+    "15 at N 17",
+    "5 before 15",
+    "listing to its end",
+    "empty listing",
 ];
 
 impl Counts {
@@ -151,6 +165,7 @@ impl Counts {
                 &["0", "1", "2", "3", "4", "5", "6", "9"][..],
             ),
             ("replay", &["0", "1", "2", "3", "4", "5", "7", "9"][..]),
+            ("list", &["0", "1", "2", "3", "4", "5", "9", "15"][..]),
             ("generate", &["0", "9", "10"][..]),
             (
                 "join",

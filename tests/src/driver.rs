@@ -46,6 +46,7 @@ impl Planner {
                 r,
             }) => calls::generate([seed, n, m, s, q, r], out),
             Call::Join(second) => calls::join(file, second, out),
+            Call::NextList(start, i) => calls::next_list(file, start, i, out),
             Call::Trace(text, settings) => {
                 let (returned, length) = calls::trace(text, settings.numbers(), out);
                 return (returned, Some(length));
@@ -260,6 +261,7 @@ fn said(call: &Call, out_len: usize) -> String {
         Call::Generate(request) => format!("probe_generate, {request:?}"),
         Call::Join(second) => format!("probe_join, second of {}", second.len()),
         Call::Trace(text, settings) => format!("probe_trace, {} bytes, {settings:?}", text.len()),
+        Call::NextList(start, i) => format!("probe_next_list, start {start} point {i}"),
     };
     format!("{call}, output of {out_len}")
 }

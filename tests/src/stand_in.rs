@@ -57,6 +57,7 @@ fn writes_though(refusal: Refusal) -> bool {
         12 => bug("written on refusal 12"),
         13 => bug("written on refusal 13"),
         14 => bug("written on refusal 14"),
+        15 => bug("written on refusal 15"),
         _ => bug("written on refusals 1 to 5"),
     }
 }

@@ -31,6 +31,7 @@ pub fn refusal_number(refusal: Refusal) -> u32
         Refusal::TooManyBlocks => 12,
         Refusal::WrongTraceLine(_) => 13,
         Refusal::WrongTrace => 14,
+        Refusal::LongTask => 15,
     }
 }
 
@@ -53,6 +54,7 @@ pub fn refusal_place(refusal: Refusal) -> usize
         Refusal::TooManyBlocks => 0,
         Refusal::WrongTraceLine(line) => line,
         Refusal::WrongTrace => 0,
+        Refusal::LongTask => 0,
     }
 }
 

@@ -1,6 +1,7 @@
 // What the programs share: numbers and files that the arguments name, and the lines that are printed.
 ghost use mathlib.Core.Path.{_≡_};
-ghost use lib.ListN.{take};
+ghost use Prim.Native.Nat.{_+_, _≤_};
+ghost use lib.ListN.{length, take};
 ghost use Rattle.io.specs.Counts.{Counts};
 ghost use Rattle.desk.specs.Decimals.{withDigit, decimalOf, AtMost};
 use libc::STDERR_FILENO;
@@ -174,6 +175,44 @@ fn write_field(fd: i32, name: &[u8], n: u64) {
 // A name and a number.
 pub fn print_field(name: &[u8], n: u64) {
     write_field(STDOUT_FILENO, name, n);
+}
+
+// A page is text that is collected before it is written, so many bytes of it so far. Writes those.
+pub fn print_page(page: &[u8], held: usize) {
+    if held <= page.len() {
+        print(&page[..held]);
+    }
+}
+
+// How many bytes a page holds once it has room for some more: as many as before, or none since they are written.
+fn room_for(page: &[u8], held: usize, size: usize) -> usize
+    requires { ⌜ size ≤ length (now page) ⌝ }
+    ensures { λ r. ⌜ r + size ≤ length (now (page .entry)) ⌝ }
+{
+    if held <= page.len() - size {
+        return held;
+    }
+    print_page(page, held);
+    0
+}
+
+// Puts text behind what a page holds, and answers how many bytes it holds then. Text that is longer than the page is written.
+pub fn collect(page: &mut [u8], held: usize, text: &[u8]) -> usize {
+    if page.len() < text.len() {
+        print_page(page, held);
+        print(text);
+        return 0;
+    }
+    let at = room_for(page, held, text.len());
+    bytes::copy(text, &mut page[at..]);
+    at + text.len()
+}
+
+// A number's digits, the same way.
+pub fn collect_number(page: &mut [u8], held: usize, n: u64) -> usize {
+    let mut digits = [0u8; 20];
+    let count = io::decimal(n, &mut digits);
+    collect(page, held, &digits[..count])
 }
 
 fn print_point(point: u16) {

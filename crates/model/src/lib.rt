@@ -34,6 +34,7 @@ pub enum Refusal {
     TooManyBlocks,
     WrongTraceLine(usize),
     WrongTrace,
+    LongTask,
 }
 
 // The lowest place at which something does not hold.

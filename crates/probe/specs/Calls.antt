@@ -12,6 +12,8 @@ use Rattle.model.specs.declared.Verdict.{Verdict}
 use Rattle.block.specs.Bytes.{les}
 use Rattle.planner.specs.Calls.{PlanAnswer, planCharges}
 use Rattle.tracing.specs.declared.Settings.{Settings}
+use Rattle.listing.specs.declared.Found.{Found}
+use Rattle.listing.specs.declared.Found.the-variants.{NoMore, Fitting}
 
 -- the answer of a call that asks for a buffer of this size: 9 first
 unfoldable pub probed : ℕ → Verdict → List ℕ → Verdict
@@ -39,3 +41,8 @@ pub record PlanLeft (file out : List ℕ) (r place : ℕ) (after : List ℕ) : T
 abbrev pub settingsOf : ℕ → ℕ → ℕ → ℕ → ℕ → ℕ → ℕ → Settings
 settingsOf size group ticks lines limit reload id =
     record { size = size; group = group; ticks = ticks; «line_count» = lines; limit = limit; reload = reload; id = id }
+
+-- the numbers of the next fitting list: whether there is one, its number, its lines and its cost, how many points it has, and one of them
+abbrev pub listNumbers : Found → ℕ → ℕ → List ℕ
+listNumbers NoMore count point = 0 ∷ 0 ∷ 0 ∷ 0 ∷ count ∷ point ∷ []
+listNumbers (Fitting l) count point = 1 ∷ l .number ∷ l .lines ∷ l .cost ∷ count ∷ point ∷ []

@@ -1,11 +1,11 @@
 // For tests: the useful lines of an edge, the next read of a line, the loaded lines and the length of a region, the charges of a list and of a plan,
-// the misses of a replay, files from a seed, joined files and files from a trace, through the public calls. Each call returns the number of its refusal and leaves the
-// place, 0 and 0 where it accepts.
+// the misses of a replay, files from a seed, joined files, files from a trace and the next fitting list, through the public calls. Each call returns the
+// number of its refusal and leaves the place, 0 and 0 where it accepts.
 // A set is left as its eight words; every number takes eight bytes, the lowest first.
 ghost use mathlib.Core.List.{[], _∷_, _++_};
 ghost use mathlib.Core.Path.{_≡_};
 ghost use Prim.Native.Nat.{_*_, _≤_};
-ghost use lib.ListN.{length};
+ghost use lib.ListN.{length, getD};
 ghost use Rattle.model.specs.Answers.{verdictNumber, verdictPlace};
 ghost use Rattle.block.specs.Bytes.{les};
 ghost use Rattle.planner.specs.Calls.{edgeVerdict, usefulWords, nextReadOf, lookedOf, regionVerdict, loadedWords, lengthOf, priceVerdict, priceLines, priceCost, priceCharges};
@@ -13,8 +13,10 @@ ghost use Rattle.replaying.specs.Calls.{replayVerdict, missesAloneOf, missesWit
 ghost use Rattle.testload.specs.Calls.{generateVerdict, generated};
 ghost use Rattle.joining.specs.Calls.{joinVerdict, joinPlace, joinLeft};
 ghost use Rattle.tracing.specs.Calls.{traceAnswer, traceOutput};
-ghost use Rattle.probe.specs.Calls.{probed, left, nextNumbers, PlanLeft, settingsOf};
+ghost use Rattle.listing.specs.Calls.{listVerdict, nextOf, nextPoints, inArray};
+ghost use Rattle.probe.specs.Calls.{probed, left, nextNumbers, PlanLeft, settingsOf, listNumbers};
 use lineset::LineSet;
+use listing::Found;
 use model::Next;
 use model::Verdict;
 use tracing::Settings;
@@ -185,6 +187,52 @@ pub extern "C" fn probe_trace(
     *length = traced.length;
     *place = answers::verdict_place(verdict);
     answers::verdict_number(verdict)
+}
+
+// The next fitting list from a start on, in 48 bytes: 1, its number, its lines and its cost or four zeros, how many points it has, and its point i, which is 0
+// behind the last.
+#[no_mangle]
+pub extern "C" fn probe_next_list(
+    file: &[u8],
+    start: u64,
+    i: usize,
+    out: &mut [u8],
+    place: &mut usize,
+) -> u32
+    ensures { λ r. ⌜ r ≡ verdictNumber (probed 48 (listVerdict (now (file .entry))) (now (out .entry))) ⌝ }
+    ensures { λ _. ⌜ now (place .exit) ≡ verdictPlace (probed 48 (listVerdict (now (file .entry))) (now (out .entry))) ⌝ }
+    ensures { λ _. ⌜ now (out .exit) ≡ left 48 (listVerdict (now (file .entry))) (listNumbers (nextOf (now (file .entry)) start) (length (nextPoints (now (file .entry)) start)) (getD (inArray (nextPoints (now (file .entry)) start)) i 0)) (now (out .entry)) ⌝ }
+{
+    let next = listing::next_list(file, start);
+    let verdict = next.verdict;
+    let found = next.found;
+    let points = next.points;
+    let numbers = list_numbers(found, next.count, point_at(points, i));
+    leave(verdict, &numbers, out, place)
+}
+
+// The numbers of the next fitting list.
+fn list_numbers(found: Found, count: usize, point: u16) -> [u64; 6]
+    ensures { λ r. ⌜ r ≡ listNumbers found count point ⌝ }
+{
+    match found {
+        Found::NoMore => [0, 0, 0, 0, count as u64, point as u64],
+        Found::Fitting(list) => [
+            1,
+            list.number,
+            list.lines as u64,
+            list.cost,
+            count as u64,
+            point as u64,
+        ],
+    }
+}
+
+// Point i of an array, or 0.
+fn point_at(points: [u16; 16], i: usize) -> u16
+    ensures { λ r. ⌜ r ≡ getD points i 0 ⌝ }
+{
+    if i < 16 { points[i] } else { 0 }
 }
 
 // The numbers of a search.

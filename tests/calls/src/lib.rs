@@ -97,6 +97,16 @@ mod linked {
             out_len: usize,
             place: *mut usize,
         ) -> u32;
+        #[cfg_attr(old, link_name = "old_probe_next_list")]
+        pub fn probe_next_list(
+            file: *const u8,
+            file_len: usize,
+            start: u64,
+            i: usize,
+            out: *mut u8,
+            out_len: usize,
+            place: *mut usize,
+        ) -> u32;
         #[cfg_attr(old, link_name = "old_probe_join")]
         pub fn probe_join(
             first: *const u8,
@@ -285,4 +295,12 @@ pub fn trace(text: &[u8], numbers: [u32; 7], out: &mut [u8]) -> (Returned, usize
         )
     });
     (returned, length)
+}
+
+/// The next fitting list from a number on, with its point i, 48 bytes.
+pub fn next_list(file: &[u8], start: u64, i: usize, out: &mut [u8]) -> Returned {
+    let (at, len) = (out.as_mut_ptr(), out.len());
+    probe(|place| unsafe {
+        linked::probe_next_list(file.as_ptr(), file.len(), start, i, at, len, place)
+    })
 }

@@ -3,7 +3,7 @@
 use super::Trial;
 use crate::driver::random_side;
 use crate::inputs::damage::damage;
-use crate::inputs::numbers::{out_len, random_k, random_line, random_region};
+use crate::inputs::numbers::{out_len, random_k, random_line, random_region, random_start};
 use crate::inputs::points::{random_list, random_points_block};
 use crate::inputs::tasks::{random_task, renumbered, renumbered_each};
 use crate::pages::Side;
@@ -14,6 +14,9 @@ use crate::reference::files::{Task, MOST_BLOCKS};
 use crate::reference::plans::{points_of, wrong_point};
 use crate::reference::seeds::Request;
 use crate::watch;
+
+/// A listing of fewer lists is leafed through.
+const LEAFED: usize = 40;
 
 /// A file, and what to ask about it.
 struct Asked {
@@ -58,6 +61,7 @@ impl Trial<'_> {
         self.regions(&asked)?;
         self.charges(&asked)?;
         self.replays(&asked)?;
+        self.lists(&asked)?;
         if asked.accepted() && self.rng.percent(40) {
             self.alike(&asked)?;
         }
@@ -235,6 +239,58 @@ impl Trial<'_> {
                 self.counts.replay(model, &points);
             }
         }
+        Ok(())
+    }
+
+    /// Some next lists, and the whole listing where it is not long.
+    fn lists(&mut self, asked: &Asked) -> Result<(), String> {
+        let numbers: Vec<u64> = match asked.reference.listing() {
+            Ok(listing) => listing.iter().map(|list| list.number).collect(),
+            Err(_) => Vec::new(),
+        };
+        for _ in 0..if asked.accepted() { 4 } else { 1 } {
+            let start = random_start(&mut self.rng, asked.n(), &numbers);
+            let i = match self.rng.below(8) {
+                0 => random_k(&mut self.rng, 16),
+                _ => self.rng.below(asked.n()),
+            };
+            let answer = self.ask(asked, "list", &Call::NextList(start, i))?;
+            self.counts.list(&asked.reference, start, &answer);
+        }
+        if asked.reference.listing().is_ok() && numbers.len() < LEAFED && self.rng.percent(25) {
+            self.leaf_through(asked)?;
+        }
+        Ok(())
+    }
+
+    /// From 0, and then from one above the last number: the lowest price is the plan's.
+    fn leaf_through(&mut self, asked: &Asked) -> Result<(), String> {
+        let mut ask = |call: &Call| {
+            let len = asked.reference.out_len(call);
+            self.driver
+                .check(&mut self.rng, &asked.reference, call, len)
+        };
+        let (mut start, mut lowest) = (0, None);
+        while let Ok(found) = ask(&Call::NextList(start, 0))? {
+            if field(&found, 0, 8) == 0 {
+                break;
+            }
+            let price = field(&found, 24, 8);
+            lowest = Some(lowest.map_or(price, |least: u64| least.min(price)));
+            start = field(&found, 8, 8) + 1;
+        }
+        let planned = ask(&Call::Plan)?;
+        let right = match &planned {
+            Ok(block) => lowest == Some(field(block, 8, 8)),
+            Err(refusal) => refusal.number == 6 && lowest.is_none(),
+        };
+        if !right {
+            return Err(format!(
+                "expected: the price of the plan lowest in the listing\ngot: {lowest:?}"
+            ));
+        }
+        self.counts.add_if(planned.is_ok(), "listing to its end");
+        self.counts.add_if(planned.is_err(), "empty listing");
         Ok(())
     }
 

@@ -9,6 +9,7 @@ use crate::reference::choice::TRY_ALL;
 use crate::reference::files::{file_refusal, Reads, Task};
 use crate::reference::joining::Pair;
 use crate::reference::lines;
+use crate::reference::listing::SHORT;
 use crate::reference::plans::points_of;
 use crate::reference::regions::Model;
 use crate::reference::Refusal;
@@ -104,6 +105,38 @@ impl Counts {
             "charge above 255",
         );
         self.add_if(charges[31] > 0, "charge 31");
+    }
+
+    pub fn list(&mut self, reference: &Reference, start: u64, answer: &Answer) {
+        let file = &reference.file;
+        let n = if file.len() < BLOCK {
+            0
+        } else {
+            field(file, 2, 2) as usize
+        };
+        let refused = answer.as_ref().map_or_else(|refusal| refusal.number, |_| 0);
+        self.add_if(refused == 15 && n == SHORT + 1, "15 at N 17");
+        self.add_if(refused == 5 && n > SHORT, "5 before 15");
+        let (Ok(found), Ok(listing)) = (answer, reference.listing()) else {
+            return;
+        };
+        let (there, number, end) = (field(found, 0, 8) == 1, field(found, 8, 8), 1 << (n - 1));
+        self.add_if(there && number == start, "list at the start");
+        self.add_if(there && number > start, "list further on");
+        self.add_if(there && n == 1, "list of N 1");
+        self.add_if(there && n == SHORT, "list of N 16");
+        self.add_if(there && number == 32767, "last list of N 16");
+        self.add_if(
+            there && n > 2 && listing.len() == end as usize,
+            "all lists fit",
+        );
+        self.add_if(listing.is_empty(), "no list fits");
+        self.add_if(
+            !there && !listing.is_empty() && start < end,
+            "past the last list",
+        );
+        self.add_if(start == end, "start of 2^(N-1)");
+        self.add_if(start >= 1 << 32, "start above 2^32");
     }
 
     pub fn region(&mut self, model: &Model, a: usize, b: usize) {

@@ -7,7 +7,7 @@ mod traces;
 use crate::driver::Driver;
 use crate::inputs::known::{largest, reads, seven};
 use crate::pages::Side;
-use crate::reference::bytes::{fnv1a, put, seal, words, BLOCK};
+use crate::reference::bytes::{field, fnv1a, put, seal, words, BLOCK};
 use crate::reference::calls::{points_in, Answer, Call, Reference};
 use crate::reference::files::{Scratch, Task};
 use crate::reference::lines::{empty_set, next_read, replay, set_bytes, Found, Misses};
@@ -104,6 +104,24 @@ impl Fixed<'_> {
                 "points {list:?}: the reference finds {found:?} and not {right:?}"
             )),
         }
+    }
+
+    /// The whole listing: each list's number and price.
+    fn lists(&mut self, right: &[(u64, u64)]) -> Result<(), String> {
+        let (mut start, mut listing) = (0, Vec::new());
+        while let Ok(found) = self.check(&Call::NextList(start, 0))? {
+            if field(&found, 0, 8) == 0 {
+                break;
+            }
+            listing.push((field(&found, 8, 8), field(&found, 24, 8)));
+            start = field(&found, 8, 8) + 1;
+        }
+        if listing == right {
+            return Ok(());
+        }
+        Err(format!(
+            "expected: {right:?}\ngot: {listing:?}, and the reference agrees"
+        ))
     }
 
     /// Into an output that is longer by so many bytes than it should be.
@@ -290,6 +308,7 @@ pub fn run(driver: &mut Driver) -> Result<(), String> {
     scratch(&mut f)?;
     armed(&mut f)?;
     charged(&mut f)?;
+    lists(&mut f)?;
 
     let most = largest();
     f.task("the largest file", &most);
@@ -504,6 +523,55 @@ fn charged(f: &mut Fixed) -> Result<(), String> {
     f.refused(&Call::ChargedPlan, 6, 0)
 }
 
+/// All fitting lists by number.
+fn lists(f: &mut Fixed) -> Result<(), String> {
+    let from_2 = [(2, 10), (3, 10), (4, 10), (5, 20), (6, 20), (7, 20)];
+    let all = [&[(0, 0), (1, 10)], &from_2[..]].concat();
+    for (q, right) in [
+        (29, &[][..]),
+        (30, &from_2[5..]),
+        (40, &from_2[4..]),
+        (60, &from_2),
+        (70, &all[1..]),
+        (80, &all),
+    ] {
+        f.task(&format!("File Seven, Q {q}, listed"), &seven(q));
+        f.lists(right)?;
+        for start in [0, 1, 5, 7, 8, 9, 1 << 16, 1 << 32, 1 << 63, u64::MAX] {
+            for i in [0, 1, 2, 3, 15, 16, usize::MAX] {
+                f.anything(&Call::NextList(start, i))?;
+            }
+        }
+    }
+    f.task("one basic block, Q 60, listed", &one_block(60, 60));
+    f.lists(&[(0, 0)])?;
+    f.anything(&Call::NextList(1, 0))?;
+    f.task("one basic block, Q 59, listed", &one_block(60, 59));
+    f.lists(&[])?;
+
+    let mut task = largest();
+    task.limit = u32::MAX;
+    task.blocks.truncate(16);
+    f.task("N 16", &task);
+    for start in [0, 1, 255, 32766, 32767, 32768, 65536, 1 << 32, u64::MAX] {
+        for i in [0, 14, 15] {
+            f.anything(&Call::NextList(start, i))?;
+        }
+    }
+    let mut task = largest();
+    task.blocks.truncate(17);
+    f.task("N 17", &task);
+    f.refused(&Call::NextList(0, 0), 15, 0)?;
+    f.refused(&Call::NextList(u64::MAX, 16), 15, 0)?;
+    f.task("N 64", &largest());
+    f.refused(&Call::NextList(0, 0), 15, 0)?;
+    let mut file = task.file();
+    put(&mut file, 20 * BLOCK + 2, 2, 125);
+    seal(&mut file[20 * BLOCK..21 * BLOCK]);
+    f.file("N 17, r 125 in block 20", &file);
+    f.refused(&Call::NextList(0, 0), 5, 20)
+}
+
 fn changed_bits(f: &mut Fixed) -> Result<(), String> {
     let whole = seven(60).file();
     let points = plan_block(5, &[2, 3]);
@@ -530,6 +598,7 @@ fn changed_bits(f: &mut Fixed) -> Result<(), String> {
                 f.anything(&Call::Region(1, 3))?;
                 f.anything(&Call::Charged(&[1, 3]))?;
                 f.anything(&Call::Replay(&[1, 3]))?;
+                f.anything(&Call::NextList(3, 1))?;
                 let mut files = [&file[..], &whole];
                 files.rotate_right(i % 2);
                 let _ = f.join("File Seven twice, a bit changed", files, 0)?;

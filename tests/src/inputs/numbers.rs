@@ -102,3 +102,22 @@ pub fn made_len(rng: &mut Rng, right: usize, most: usize, others: &[usize]) -> u
     ];
     rng.pick(&[&near, others].concat()).min(most)
 }
+
+/// A start for a listing of these numbers: on one of them, beside it, and beyond the last of n blocks.
+pub fn random_start(rng: &mut Rng, n: usize, numbers: &[u64]) -> u64 {
+    let end = 1u64 << (n - 1);
+    let listed = if numbers.is_empty() {
+        0
+    } else {
+        rng.pick(numbers)
+    };
+    match rng.below(12) {
+        0 => 0,
+        1..=3 => listed,
+        4..=5 => listed + 1,
+        6 => rng.pick(&[end - 1, end, end + 1]),
+        7 => rng.pick(&[1 << 16, 1 << 31, 1 << 32, 1 << 63]) + listed,
+        8 => rng.pick(&[65535, 65536, u32::MAX as u64, u64::MAX - 1, u64::MAX]),
+        _ => rng.below(end as usize) as u64,
+    }
+}

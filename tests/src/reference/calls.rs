@@ -6,6 +6,7 @@ use super::choice::{Least, TRY_ALL};
 use super::files::{file_refusal, Task};
 use super::joining::Pair;
 use super::lines::{next_read, replay, set_bytes};
+use super::listing::{bytes_of, next_of, Listed, SHORT};
 use super::plans::{plan_block_refusal, points_of, wrong_point, Plan};
 use super::regions::Model;
 use super::seeds::Request;
@@ -34,6 +35,8 @@ pub enum Call<'a> {
     Join(&'a [u8]),
     /// Makes a file of a trace; this call has no other.
     Trace(&'a [u8], Settings),
+    /// The next fitting list from this number on, and the index of a point.
+    NextList(u64, usize),
 }
 
 pub type Answer = Result<Vec<u8>, Refusal>;
@@ -53,6 +56,7 @@ pub struct Reference {
     refusal: OnceCell<Option<Refusal>>,
     model: OnceCell<Model>,
     least: OnceCell<Option<Least>>,
+    listing: OnceCell<Vec<Listed>>,
 }
 
 impl Reference {
@@ -62,6 +66,7 @@ impl Reference {
             refusal: OnceCell::new(),
             model: OnceCell::new(),
             least: OnceCell::new(),
+            listing: OnceCell::new(),
         }
     }
 
@@ -95,6 +100,7 @@ impl Reference {
             Call::Region(..) => 72,
             Call::Charged(_) | Call::ChargedPlan => 272,
             Call::Replay(_) => 16,
+            Call::NextList(..) => 48,
             Call::Generate(request) => request.length() as usize,
             Call::Join(second) => self.with(second).length(),
             Call::Trace(..) => OUTPUT,
@@ -165,8 +171,26 @@ impl Reference {
             Call::Charged(list) => self.charged(&points_in(list)),
             Call::ChargedPlan => self.charged_plan(),
             Call::Replay(list) => self.replayed(&points_in(list)),
+            Call::NextList(start, i) => self.next_list(start, i),
             Call::Generate(_) | Call::Join(_) | Call::Trace(..) => unreachable!(),
         }
+    }
+
+    /// All fitting lists of a file that is accepted and short.
+    pub fn listing(&self) -> Result<&[Listed], Refusal> {
+        let most = SHORT.but("N 17 listed", 17).but("N 16 not listed", 15);
+        let long = |n: usize| refuse(15, 0).filter(|_| n > most);
+        if bug("15 before 5") && self.model().is_err_and(|refusal| refusal.number == 5) {
+            given(long(field(&self.file, 2, 2) as usize))?;
+        }
+        let model = self.model()?;
+        given(long(model.n))?;
+        Ok(self.listing.get_or_init(|| model.listing()))
+    }
+
+    fn next_list(&self, start: u64, i: usize) -> Answer {
+        let listing = self.listing()?;
+        Ok(bytes_of(next_of(listing, self.model()?.n, start), i))
     }
 
     fn planned(&self) -> Answer {

@@ -8,6 +8,7 @@ pub mod choice;
 pub mod files;
 pub mod joining;
 pub mod lines;
+pub mod listing;
 pub mod plans;
 pub mod regions;
 pub mod seeds;

@@ -1,0 +1,23 @@
+-- `probe::point_at` meets its contract: behind the array there is none.
+-- Assumes nothing.
+use mathlib.Core.Path.{sym}
+use native.Mathlib.Omega.{arith}
+use lib.ListN.{List·getD-eq-default}
+use borrow.Author.Needs.{needs}
+use Rattle.probe.proofs.point_at.Statement.{statement}
+use Rattle.probe.proofs.point_at.Tie as tie
+
+mul-result : tie.Need-mul-result
+mul-result c = search needs
+
+array-read-result : tie.Need-array-read-result
+array-read-result c = search needs
+
+returns : tie.Need-returns
+returns c = search needs
+
+returns-2 : tie.Need-returns-2
+returns-2 c = sym (List·getD-eq-default (c .before .args .t1) 0 (omega arith))
+
+pub point-at-spec : {M : Type 1} → statement M
+point-at-spec = tie.close (tie.spec mul-result array-read-result returns returns-2)

@@ -33,13 +33,20 @@ prints() {
     cat "$errors"
 }
 
-# usage PROGRAM ARGUMENT..: the program prints one line on standard error, and nothing else
-usage() {
-    printed=$(runs "$@" <$seven-60 2>"$errors")
+# usage_with FILE PROGRAM ARGUMENT..: on the file, the program prints one line on standard error, and nothing else
+usage_with() {
+    file=$1
+    shift
+    printed=$(runs "$@" <"$file" 2>"$errors")
     [ -z "$printed" ] && [ "$(wc -l <"$errors")" -eq 1 ] && grep -q '^usage: ' "$errors" && return
     failed=1
-    printf '%s\nshould print a line of usage, and printed\n%s\n' "$*" "$printed"
+    printf '%s < %s\nshould print a line of usage, and printed\n%s\n' "$*" "$file" "$printed"
     cat "$errors"
+}
+
+# usage PROGRAM ARGUMENT..: the same on File Seven
+usage() {
+    usage_with $seven-60 "$@"
 }
 
 # reports LINE PROGRAM ARGUMENT..: the program prints this line on standard error, and nothing else
@@ -475,6 +482,83 @@ done
 usage join
 usage join $seven-60
 usage join $seven-60 $seven-60 $seven-60
+
+# deadlines HORIZON: a line `e p d q` of standard input for each task
+set=$parts/set
+tasks() {
+    printf '%s\n' "$@" >"$set"
+}
+
+tasks '2 5 5 1'
+prints "$set" 'yes' deadlines 20
+tasks '2 4 4 1' '3 6 6 1'
+prints "$set" 'yes' deadlines 100
+tasks '2 4 4 1' '4 6 6 1'
+prints "$set" 'yes' deadlines 11
+for horizon in 12 13 100 16777215; do
+    prints "$set" 'no at 12' deadlines $horizon
+done
+
+# the second task blocks the first by its region
+tasks '1 10 3 1' '1 10 9 3'
+prints "$set" 'no at 3' deadlines 100
+prints "$set" 'no at 3' deadlines 3
+prints "$set" 'yes' deadlines 2
+prints "$set" 'yes' deadlines 0
+tasks '1 10 3 1' '1 10 9 2'
+prints "$set" 'yes' deadlines 100
+
+# the longest test, and the largest numbers
+{
+    echo '1 1 2 1'
+    for i in 1 2 3 4 5 6 7 8 9 10 11 12 13 14 15; do echo '1 1 16777215 1'; done
+} >"$set"
+prints "$set" 'no at 16777215' deadlines 16777215
+prints "$set" 'yes' deadlines 16777214
+tasks '16777215 16777215 16777215 16777215'
+prints "$set" 'yes' deadlines 16777215
+tasks '16777215 1 1 16777215'
+prints "$set" 'no at 1' deadlines 16777215
+
+# 16 at 0: 0 or 17 records, a field or the horizon out of range, however large
+prints /dev/null 'refused 16 at 0' deadlines 20
+for i in 1 2 3 4 5 6 7 8 9 10 11 12 13 14 15 16; do echo '1 100 100 1'; done >"$set"
+prints "$set" 'yes' deadlines 20
+echo '1 100 100 1' >>"$set"
+prints "$set" 'refused 16 at 0' deadlines 20
+for line in '0 5 5 1' '2 0 5 1' '2 5 0 1' '2 5 5 0'; do
+    tasks '2 5 5 1' "$line"
+    prints "$set" 'refused 16 at 0' deadlines 20
+done
+for number in 16777216 4294967296 4294967301 18446744073709551616 100000000000000000000000000000000000001; do
+    for line in "$number 5 5 1" "2 $number 5 1" "2 5 $number 1" "2 5 5 $number"; do
+        tasks "$line"
+        prints "$set" 'refused 16 at 0' deadlines 20
+    done
+    tasks '2 5 5 1'
+    prints "$set" 'refused 16 at 0' deadlines $number
+done
+tasks '02 00005 5 0000000000000000000000000000000000000001'
+prints "$set" 'yes' deadlines 0020
+printf '2 5 5 1' >"$set"
+prints "$set" 'yes' deadlines 20
+
+# a line that is not four numbers, also behind a set that is refused
+for line in '' '1 2 3' '1 2 3 4 5' '1  2 3 4' ' 1 2 3 4' '1 2 3 4 ' '1 2 3 x' '1 2 3 -4' '+1 2 3 4' '1,2 3 4' '1	2 3 4'; do
+    tasks "$line"
+    usage_with "$set" deadlines 20
+    tasks '0 5 5 1' '2 5 5 1' "$line"
+    usage_with "$set" deadlines 20
+done
+printf '2 5 5 1\r\n' >"$set"
+usage_with "$set" deadlines 20
+tasks '2 5 5 1'
+usage_with "$set" deadlines
+usage_with "$set" deadlines x
+usage_with "$set" deadlines -1
+usage_with "$set" deadlines ''
+usage_with "$set" deadlines 20 20
+usage_with $largest deadlines 20
 
 for program in $programs; do
     grep -qx "$program" "$parts/run" || { failed=1; echo "$program is not tried"; }

@@ -4,6 +4,7 @@ pub mod by_line;
 pub mod charges;
 pub mod checks;
 pub mod counts;
+pub mod deadlines;
 pub mod fast;
 pub mod files;
 pub mod generate;

@@ -4,15 +4,18 @@
 use bench::by_line::ByLine;
 use bench::checks::lowest_wrong;
 use bench::counts::Counts;
+use bench::deadlines::{any_set, task_set, MOST_TICKS};
 use bench::files::{
     any, any_points, drawn, growing, planned, reread, rotated, seven, Again, Rng, Shape, LARGEST,
 };
 use bench::timing::{keep, medians};
-use bench::{charges, fast, generate, join, regions, replays, searches, trace};
-use calls::Returned;
+use bench::{charges, deadlines, fast, generate, join, regions, replays, searches, trace};
+use calls::{Returned, TaskRecord};
 use std::hint::black_box;
 
 const ROUNDS: usize = 151;
+/// Of tests that take tenths of a second.
+const LONG_ROUNDS: usize = 15;
 /// So many random files are tried before anything is timed.
 const TRIED: u64 = 2000;
 
@@ -124,6 +127,22 @@ fn hold_random() {
         assert!(
             are_alike(&planned) && are_alike(&priced) && are_alike(&regions) && are_alike(&charged),
             "{name}: answers differ"
+        );
+    }
+}
+
+/// Holds the test of deadlines in Rust to the planner on random task sets, with refusals.
+fn hold_random_sets() {
+    for seed in 0..TRIED {
+        let mut rng = Rng(seed);
+        let (tasks, horizon) = any_set(&mut rng);
+        let found = [
+            answer::<16>(|out| calls::deadlines(&tasks, horizon, out)),
+            answer(|out| deadlines::deadlines(&tasks, horizon, out)),
+        ];
+        assert!(
+            are_alike(&found),
+            "the random set of seed {seed}: answers differ"
         );
     }
 }
@@ -475,8 +494,71 @@ fn trace_row(name: &str, count: usize, bits: u32, g: u32) {
     say("trace", traced[0], &[("plain", traced[1])]);
 }
 
+/// The deadlines of a task set, up to a horizon.
+fn deadlines_row(name: &str, tasks: &[TaskRecord], horizon: u32, rounds: usize) {
+    let found = [
+        answer::<16>(|out| calls::deadlines(tasks, horizon, out)),
+        answer(|out| deadlines::deadlines(tasks, horizon, out)),
+    ];
+    hold_alike(name, &found);
+    let said = match word(&found[0].1, 0) {
+        0 => "yes".to_string(),
+        _ => format!("no at {}", word(&found[0].1, 8)),
+    };
+    println!("{name}, up to {horizon}: {said}");
+
+    let (tasks, horizon) = (|| black_box(tasks), || black_box(horizon));
+    let mut out = [[0; 16]; 2];
+    let [ours, plain] = black_box(&mut out);
+    let test = medians(
+        rounds,
+        1,
+        [
+            &mut |_| keep(calls::deadlines(tasks(), horizon(), ours)),
+            &mut |_| keep(deadlines::deadlines(tasks(), horizon(), plain)),
+        ],
+    );
+    say("test", test[0], &[("plain", test[1])]);
+}
+
+/// Sets whose test is long, and one whose test is short.
+fn deadlines_rows() {
+    let last = MOST_TICKS;
+    let worst = task_set(16, |i| match i {
+        0 => [1, 1, 2, 1],
+        _ => [1, 1, last, 1],
+    });
+    let mixed = |count| task_set(count, |i| [16 / count, 19 + 7 * i, 20 + 5 * i, 3]);
+    for (name, tasks, horizon) in [
+        ("16 tasks of period 1", worst, last - 1),
+        (
+            "16 of period 1 from 16000000 on",
+            task_set(16, |_| [1, 1, 16_000_000, 1]),
+            last,
+        ),
+        ("one of period 1", task_set(1, |_| [1, 1, 2, 1]), last),
+        (
+            "2 of period 2 in turns",
+            task_set(2, |i| [1, 2, 2 + i, 1]),
+            last,
+        ),
+        (
+            "16 of period 16 in turns",
+            task_set(16, |i| [1, 16, 16 + i, 1]),
+            last,
+        ),
+        ("16 of other periods", mixed(16), last),
+        ("5 of other periods", mixed(5), last),
+    ] {
+        deadlines_row(name, &tasks, horizon, LONG_ROUNDS);
+    }
+    let short = task_set(2, |i| [2 + 2 * i, 4 + 2 * i, 4 + 2 * i, 1]);
+    deadlines_row("2 tasks", &short, 100, ROUNDS);
+}
+
 fn main() {
     hold_random();
+    hold_random_sets();
     println!(
         "plain: one walk over the reads and counts, as the planner; by line: one word per line"
     );
@@ -532,6 +614,10 @@ fn main() {
     trace_row("the largest trace", 7936, 32, 124);
     trace_row("the largest trace, short addresses", 7936, 16, 124);
     trace_row("a trace of ten lines", 10, 32, 4);
+    println!(
+        "deadlines of a task set; plain: from instant to instant, over the records as they lie"
+    );
+    deadlines_rows();
     println!("growth, Q without limit:");
     for (name, files) in growing() {
         plan_row(&name, &files);

@@ -40,6 +40,7 @@ const ASKING: &[&str] = &[
     include_str!("reference/calls.rs"),
     include_str!("reference/charges.rs"),
     include_str!("reference/choice.rs"),
+    include_str!("reference/deadlines.rs"),
     include_str!("reference/files.rs"),
     include_str!("reference/joining.rs"),
     include_str!("reference/lines.rs"),

@@ -1,5 +1,7 @@
 //! How often each answer and each shape of plan came up.
 
+use crate::cases::deadlines::KINDS;
+
 pub struct Counts(Vec<(String, u64)>);
 
 const SHAPES: [&str; 137] = [
@@ -178,7 +180,7 @@ impl Counts {
         ] {
             all.extend(answers.iter().map(|a| (format!("{call}: {a}"), 0)));
         }
-        all.extend(SHAPES.iter().map(|s| (s.to_string(), 0)));
+        all.extend(SHAPES.iter().chain(&KINDS).map(|s| (s.to_string(), 0)));
         Counts(all)
     }
 

@@ -3,6 +3,7 @@
 use crate::pages::{Lane, Side};
 use crate::reference::bytes::hex;
 use crate::reference::calls::{Answer, Call, Reference};
+use crate::reference::deadlines::{TaskRecord, TaskSet};
 use crate::reference::seeds::Request;
 use crate::rng::Rng;
 use crate::stand_in::StandIn;
@@ -47,6 +48,7 @@ impl Planner {
             }) => calls::generate([seed, n, m, s, q, r], out),
             Call::Join(second) => calls::join(file, second, out),
             Call::NextList(start, i) => calls::next_list(file, start, i, out),
+            Call::Deadlines(TaskSet { tasks, horizon }) => calls::deadlines(tasks, horizon, out),
             Call::Trace(text, settings) => {
                 let (returned, length) = calls::trace(text, settings.numbers(), out);
                 return (returned, Some(length));
@@ -68,7 +70,7 @@ struct Left {
 pub struct Driver {
     planner: Planner,
     file: Lane,
-    /// A plan block, a list or a second file.
+    /// A plan block, a list, a second file or a task set.
     other: Lane,
     out: Lane,
     made: Lane,
@@ -83,12 +85,20 @@ pub fn random_side(rng: &mut Rng) -> Side {
     }
 }
 
-/// Numbers of two bytes lie at an even address, also where there are none.
+/// Numbers lie at an address that their width divides, also where there are none.
 fn even_side(rng: &mut Rng, count: usize) -> Side {
     match random_side(rng) {
         Side::Start if count > 0 => Side::Start,
         _ => Side::End,
     }
+}
+
+fn record_bytes(task: &TaskRecord) -> Vec<u8> {
+    let fields = [task.execution, task.period, task.deadline, task.region];
+    fields
+        .iter()
+        .flat_map(|field| field.to_ne_bytes())
+        .collect()
 }
 
 impl Driver {
@@ -140,6 +150,12 @@ impl Driver {
                 self.other.lend(text, random_side(rng));
                 Call::Trace(self.other.lent(), settings)
             }
+            Call::Deadlines(TaskSet { tasks, horizon }) => {
+                let bytes: Vec<u8> = tasks.iter().flat_map(record_bytes).collect();
+                self.other.lend(&bytes, even_side(rng, tasks.len()));
+                let tasks = self.other.lent_records();
+                Call::Deadlines(TaskSet { tasks, horizon })
+            }
             call => call,
         };
         let lane = match call {
@@ -154,9 +170,11 @@ impl Driver {
         let before = bytes.to_vec();
         self.calls += 1;
         let points = match call {
-            Call::Price(_) | Call::Charged(_) | Call::Replay(_) | Call::Trace(..) => {
-                self.other.lent()
-            }
+            Call::Price(_)
+            | Call::Charged(_)
+            | Call::Replay(_)
+            | Call::Trace(..)
+            | Call::Deadlines(_) => self.other.lent(),
             _ => &[],
         };
         watch::call(said(&call, out_len), points);
@@ -262,6 +280,12 @@ fn said(call: &Call, out_len: usize) -> String {
         Call::Join(second) => format!("probe_join, second of {}", second.len()),
         Call::Trace(text, settings) => format!("probe_trace, {} bytes, {settings:?}", text.len()),
         Call::NextList(start, i) => format!("probe_next_list, start {start} point {i}"),
+        Call::Deadlines(TaskSet { tasks, horizon }) => {
+            format!(
+                "probe_deadlines, horizon {horizon}, {} tasks: {tasks:?}",
+                tasks.len()
+            )
+        }
     };
     format!("{call}, output of {out_len}")
 }

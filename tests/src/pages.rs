@@ -1,5 +1,7 @@
 //! Buffers whose end, or start, touches a page that traps, or that begin at an odd address.
 
+use calls::TaskRecord;
+
 extern "C" {
     fn mmap(
         at: *mut u8,
@@ -108,6 +110,12 @@ impl Lane {
     /// The lent bytes as numbers of two bytes, which lie at an even address.
     pub fn lent_numbers(&self) -> &[u16] {
         unsafe { std::slice::from_raw_parts(self.pointer() as *const u16, self.lent.0 / 2) }
+    }
+
+    /// The lent bytes as records of a task set, which lie at an address that four divides.
+    pub fn lent_records(&self) -> &[TaskRecord] {
+        let count = self.lent.0 / size_of::<TaskRecord>();
+        unsafe { std::slice::from_raw_parts(self.pointer() as *const TaskRecord, count) }
     }
 
     /// Says which bytes are an output.

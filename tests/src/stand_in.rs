@@ -4,7 +4,7 @@ use crate::bugs::{self, bug, But};
 use crate::reference::bytes::{field, put, seal, BLOCK};
 use crate::reference::calls::{Call, Reference};
 use crate::reference::files::sizes;
-use calls::{Refusal, Returned};
+use calls::{Refusal, Returned, TaskRecord};
 
 pub struct StandIn {
     name: &'static str,
@@ -58,6 +58,7 @@ fn writes_though(refusal: Refusal) -> bool {
         13 => bug("written on refusal 13"),
         14 => bug("written on refusal 14"),
         15 => bug("written on refusal 15"),
+        16 => bug("written on refusal 16"),
         _ => bug("written on refusals 1 to 5"),
     }
 }
@@ -144,6 +145,15 @@ fn touch(file: &[u8], call: &Call, out: &mut [u8]) {
         text,
         bug("a trace read beyond its end"),
         bug("a trace written"),
+    );
+    let records: &[TaskRecord] = match *call {
+        Call::Deadlines(set) => set.tasks,
+        _ => &[],
+    };
+    beyond(
+        records,
+        bug("records read beyond their end"),
+        bug("records written"),
     );
     beyond(file, bug("file read beyond its end"), bug("file written"));
     if bug("file read before its start") {

@@ -32,6 +32,7 @@ pub fn refusal_number(refusal: Refusal) -> u32
         Refusal::WrongTraceLine(_) => 13,
         Refusal::WrongTrace => 14,
         Refusal::LongTask => 15,
+        Refusal::WrongTaskSet => 16,
     }
 }
 
@@ -55,6 +56,7 @@ pub fn refusal_place(refusal: Refusal) -> usize
         Refusal::WrongTraceLine(line) => line,
         Refusal::WrongTrace => 0,
         Refusal::LongTask => 0,
+        Refusal::WrongTaskSet => 0,
     }
 }
 

@@ -1,5 +1,5 @@
 -- Numbers in decimal digits, as the programs take them for arguments. Assumes nothing.
-use Prim.Native.Nat.{ℕ, _+_, _-_, _*_, _^_, _≤_}
+use Prim.Native.Nat.{ℕ, _+_, _-_, _*_, _^_, _≤_, min}
 use mathlib.Core.Bool.{Bool, true, cond, _&&_}
 use mathlib.Core.List.{List, [], _∷_}
 use lib.Dec.{leb, ltb}
@@ -31,6 +31,10 @@ decimalOf text = numberIf (ltb 0 (length text) && allDigits text) (value text)
 -- a number with one digit more at its end
 unfoldable pub withDigit : ℕ → ℕ → Decimal
 withDigit n b = numberIf (isDigit b) (n * 10 + (b - 48))
+
+-- the same without a width: a number above the bound counts as the bound
+unfoldable pub cappedDecimal : ℕ → List ℕ → Decimal
+cappedDecimal most text = cond (ltb 0 (length text) && allDigits text) (Number (min (value text) most)) Nothing
 
 -- a number, if there is one, is at most so much
 abbrev pub AtMost : ℕ → Decimal → Type 0

@@ -1,9 +1,9 @@
 // What the programs share: numbers and files that the arguments name, and the lines that are printed.
 ghost use mathlib.Core.Path.{_≡_};
-ghost use Prim.Native.Nat.{_+_, _≤_};
+ghost use Prim.Native.Nat.{min, _+_, _≤_};
 ghost use lib.ListN.{length, take};
 ghost use Rattle.io.specs.Counts.{Counts};
-ghost use Rattle.desk.specs.Decimals.{withDigit, decimalOf, AtMost};
+ghost use Rattle.desk.specs.Decimals.{withDigit, decimalOf, cappedDecimal, AtMost};
 use libc::STDERR_FILENO;
 use libc::STDIN_FILENO;
 use libc::STDOUT_FILENO;
@@ -57,6 +57,40 @@ pub fn decimal_of(text: &[u8]) -> Decimal
         i += 1;
     }
     Decimal::Number(n)
+}
+
+// The number that bytes say, or the bound where it is more: digits alone, however many.
+pub fn capped_decimal(text: &[u8], most: u32) -> Decimal
+    ensures { λ r. ⌜ r ≡ cappedDecimal most (now (text .entry)) ⌝ }
+{
+    if text.len() < 1 {
+        return Decimal::Nothing;
+    }
+    let mut n = 0;
+    let mut i = 0;
+    while i < text.len() {
+        let Decimal::Number(more) = with_digit(n, text[i]) else {
+            return Decimal::Nothing;
+        };
+        n = lesser(more, most as u64);
+        i += 1;
+    }
+    Decimal::Number(n)
+}
+
+fn lesser(a: u64, b: u64) -> u64
+    ensures { λ r. ⌜ r ≡ min a b ⌝ }
+{
+    if a < b { a } else { b }
+}
+
+// Argument i as a number, or the bound where it is more.
+pub fn capped_argument(i: usize, most: u32) -> Decimal
+    ensures { λ r. ⌜ AtMost most r ⌝ }
+{
+    let mut text = io::buffer();
+    let n = os::arg(i, &mut text);
+    capped_decimal(&text[..n], most)
 }
 
 // Argument i as a number of at most so much; an argument that is missing or longer than 4,096 bytes says nothing.

@@ -41,6 +41,20 @@ lowest-within f a (suc n) k e = go (f a) e (lowest-within f (suc a) n k)
     go true q ih = omega (arith, ih q)
     go false q ih = let s : a ≡ k = cc in omega arith
 
+-- the place that is found fails, and none before it does
+pub lowest-found : (f : ℕ → Bool) (a n k : ℕ) → lowestFrom f a n ≡ At k → (a ≤ k) × (f k ≡ false) × ((i : ℕ) → a ≤ i → i < k → f i ≡ true)
+unfolding lowestFrom
+lowest-found f a zero k e = let z : _≡_ {A = ℕ} 0 1 = cc in absurd (omega arith)
+lowest-found f a (suc n) k e = go (f a) refl e (lowest-found f (suc a) n k)
+  where
+    go : (b : Bool) → f a ≡ b → cond b (lowestFrom f (suc a) n) (At a) ≡ At k
+        → (lowestFrom f (suc a) n ≡ At k → (suc a ≤ k) × (f k ≡ false) × ((i : ℕ) → suc a ≤ i → i < k → f i ≡ true))
+        → (a ≤ k) × (f k ≡ false) × ((i : ℕ) → a ≤ i → i < k → f i ≡ true)
+    go true p q ih =
+        let later = ih q in
+        (omega arith, later .1, λ i l u. by-cases (ℕ-discrete i a) (λ s. rw s p) (λ s. later .2 i (omega arith) u))
+    go false p q ih = let s : a ≡ k = cc in (omega arith, rw (← s) p, λ i l u. absurd (omega arith))
+
 -- looked for one by one
 
 -- what is looked at is right: on to the next

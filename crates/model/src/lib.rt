@@ -35,6 +35,7 @@ pub enum Refusal {
     WrongTraceLine(usize),
     WrongTrace,
     LongTask,
+    WrongTaskSet,
 }
 
 // The lowest place at which something does not hold.

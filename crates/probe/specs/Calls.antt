@@ -1,4 +1,4 @@
--- What the calls on a file return and leave. Each returns the number of its refusal and leaves the place, 0 and 0 where it accepts
+-- What the calls return and leave. Each returns the number of its refusal and leaves the place, 0 and 0 where it accepts
 -- (`verdictNumber` and `verdictPlace` of `model`); in the lent buffer it leaves numbers, eight bytes each. Assumes nothing.
 use Prim.Native.Nat.{ℕ}
 use mathlib.Core.Path.{_≡_}
@@ -14,6 +14,9 @@ use Rattle.planner.specs.Calls.{PlanAnswer, planCharges}
 use Rattle.tracing.specs.declared.Settings.{Settings}
 use Rattle.listing.specs.declared.Found.{Found}
 use Rattle.listing.specs.declared.Found.the-variants.{NoMore, Fitting}
+use Rattle.demand.specs.declared.Answer.{Answer}
+use Rattle.demand.specs.declared.Deadlines.{Deadlines}
+use Rattle.demand.specs.declared.Deadlines.the-variants.{Met, Missed}
 
 -- the answer of a call that asks for a buffer of this size: 9 first
 unfoldable pub probed : ℕ → Verdict → List ℕ → Verdict
@@ -46,3 +49,14 @@ settingsOf size group ticks lines limit reload id =
 abbrev pub listNumbers : Found → ℕ → ℕ → List ℕ
 listNumbers NoMore count point = 0 ∷ 0 ∷ 0 ∷ 0 ∷ count ∷ point ∷ []
 listNumbers (Fitting l) count point = 1 ∷ l .number ∷ l .lines ∷ l .cost ∷ count ∷ point ∷ []
+
+-- the numbers of a test of deadlines: whether one is missed, and the first time that fails
+abbrev pub deadlinesNumbers : Deadlines → List ℕ
+deadlinesNumbers Met = 0 ∷ 0 ∷ []
+deadlinesNumbers (Missed t) = 1 ∷ t ∷ []
+
+-- what a test of deadlines returns and leaves, a place and bytes, in a buffer of 16 bytes
+abbrev pub DeadlinesLeft : Answer → List ℕ → ℕ → ℕ → List ℕ → Type 0
+DeadlinesLeft a out returned place bytes =
+    (returned ≡ verdictNumber (probed 16 (a .verdict) out)) × (place ≡ verdictPlace (probed 16 (a .verdict) out))
+    × (bytes ≡ left 16 (a .verdict) (deadlinesNumbers (a .deadlines)) out)

@@ -1,6 +1,6 @@
 // For tests: the useful lines of an edge, the next read of a line, the loaded lines and the length of a region, the charges of a list and of a plan,
-// the misses of a replay, files from a seed, joined files, files from a trace and the next fitting list, through the public calls. Each call returns the
-// number of its refusal and leaves the place, 0 and 0 where it accepts.
+// the misses of a replay, files from a seed, joined files, files from a trace, the next fitting list and the deadlines of a task set, through the public
+// calls. Each call returns the number of its refusal and leaves the place, 0 and 0 where it accepts.
 // A set is left as its eight words; every number takes eight bytes, the lowest first.
 ghost use mathlib.Core.List.{[], _∷_, _++_};
 ghost use mathlib.Core.Path.{_≡_};
@@ -14,7 +14,11 @@ ghost use Rattle.testload.specs.Calls.{generateVerdict, generated};
 ghost use Rattle.joining.specs.Calls.{joinVerdict, joinPlace, joinLeft};
 ghost use Rattle.tracing.specs.Calls.{traceAnswer, traceOutput};
 ghost use Rattle.listing.specs.Calls.{listVerdict, nextOf, nextPoints, inArray};
-ghost use Rattle.probe.specs.Calls.{probed, left, nextNumbers, PlanLeft, settingsOf, listNumbers};
+ghost use Rattle.demand.specs.Calls.{answer as answerTo};
+ghost use Rattle.probe.specs.Calls.{probed, left, nextNumbers, PlanLeft, settingsOf, listNumbers, deadlinesNumbers, DeadlinesLeft};
+use demand::Answer;
+use demand::Deadlines;
+use demand::TaskRecord;
 use lineset::LineSet;
 use listing::Found;
 use model::Next;
@@ -233,6 +237,39 @@ fn point_at(points: [u16; 16], i: usize) -> u16
     ensures { λ r. ⌜ r ≡ getD points i 0 ⌝ }
 {
     if i < 16 { points[i] } else { 0 }
+}
+
+// Whether the tasks of a set meet their deadlines up to a horizon, in 16 bytes: two zeros, or 1 and the first time that fails.
+#[no_mangle]
+pub extern "C" fn probe_deadlines(
+    tasks: &[TaskRecord],
+    horizon: u32,
+    out: &mut [u8],
+    place: &mut usize,
+) -> u32
+    ensures { λ r. ⌜ DeadlinesLeft (answerTo (now (tasks .entry)) horizon) (now (out .entry)) r (now (place .exit)) (now (out .exit)) ⌝ }
+{
+    leave_deadlines(demand::test_deadlines(tasks, horizon), out, place)
+}
+
+// Leaves what a test of deadlines answers.
+fn leave_deadlines(answer: Answer, out: &mut [u8], place: &mut usize) -> u32
+    ensures { λ r. ⌜ DeadlinesLeft answer (now (out .entry)) r (now (place .exit)) (now (out .exit)) ⌝ }
+{
+    let verdict = answer.verdict;
+    let deadlines = answer.deadlines;
+    let numbers = deadlines_numbers(deadlines);
+    leave(verdict, &numbers, out, place)
+}
+
+// The numbers of a test of deadlines.
+fn deadlines_numbers(deadlines: Deadlines) -> [u64; 2]
+    ensures { λ r. ⌜ r ≡ deadlinesNumbers deadlines ⌝ }
+{
+    match deadlines {
+        Deadlines::Met => [0, 0],
+        Deadlines::Missed(t) => [1, t as u64],
+    }
 }
 
 // The numbers of a search.

@@ -10,7 +10,19 @@ pub struct Refusal {
 
 pub type Returned = Result<(), Refusal>;
 
+/// A task of a set: e, p, d and q.
+#[repr(C)]
+#[derive(Clone, Copy, PartialEq, Eq, Debug)]
+pub struct TaskRecord {
+    pub execution: u32,
+    pub period: u32,
+    pub deadline: u32,
+    pub region: u32,
+}
+
 mod linked {
+    use super::TaskRecord;
+
     extern "C" {
         #[cfg_attr(old, link_name = "old_preempt_plan")]
         pub fn preempt_plan(
@@ -131,6 +143,15 @@ mod linked {
             out: *mut u8,
             out_len: usize,
             length: *mut usize,
+            place: *mut usize,
+        ) -> u32;
+        #[cfg_attr(old, link_name = "old_probe_deadlines")]
+        pub fn probe_deadlines(
+            tasks: *const TaskRecord,
+            count: usize,
+            horizon: u32,
+            out: *mut u8,
+            out_len: usize,
             place: *mut usize,
         ) -> u32;
     }
@@ -302,5 +323,19 @@ pub fn next_list(file: &[u8], start: u64, i: usize, out: &mut [u8]) -> Returned 
     let (at, len) = (out.as_mut_ptr(), out.len());
     probe(|place| unsafe {
         linked::probe_next_list(file.as_ptr(), file.len(), start, i, at, len, place)
+    })
+}
+
+/// Whether a task set meets its deadlines up to a horizon, 16 bytes: two zeros, or 1 and the first time that fails.
+pub fn deadlines(tasks: &[TaskRecord], horizon: u32, out: &mut [u8]) -> Returned {
+    probe(|place| unsafe {
+        linked::probe_deadlines(
+            tasks.as_ptr(),
+            tasks.len(),
+            horizon,
+            out.as_mut_ptr(),
+            out.len(),
+            place,
+        )
     })
 }

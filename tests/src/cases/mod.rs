@@ -1,5 +1,6 @@
-//! One random case: a file from a seed, every call on one file, files joined, and a file from a trace.
+//! One random case: a file from a seed, every call on one file, files joined, a file from a trace, and a task set.
 
+pub mod deadlines;
 mod files;
 mod made;
 mod shapes;
@@ -27,5 +28,6 @@ pub fn run(driver: &mut Driver, counts: &mut Counts, seed: u64, case: u64) -> Re
     trial.generated()?;
     trial.file()?;
     trial.joined()?;
-    trial.traced()
+    trial.traced()?;
+    trial.deadlines()
 }

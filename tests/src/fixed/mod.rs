@@ -1,6 +1,7 @@
 //! The document's own cases, asked of the planner and of the reference, and a change of every
 //! bit of File Seven and of one plan block.
 
+mod deadlines;
 mod joins;
 mod traces;
 
@@ -352,6 +353,7 @@ pub fn run(driver: &mut Driver) -> Result<(), String> {
 
     joins::run(&mut f)?;
     traces::run(&mut f)?;
+    deadlines::run(&mut f)?;
     changed_bits(&mut f)
 }
 

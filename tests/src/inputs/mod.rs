@@ -6,5 +6,6 @@ pub mod numbers;
 pub mod pairs;
 pub mod points;
 pub mod requests;
+pub mod sets;
 pub mod tasks;
 pub mod traces;

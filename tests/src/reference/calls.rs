@@ -3,6 +3,7 @@
 use super::bytes::{field, words, BLOCK};
 use super::charges::charged;
 use super::choice::{Least, TRY_ALL};
+use super::deadlines::TaskSet;
 use super::files::{file_refusal, Task};
 use super::joining::Pair;
 use super::lines::{next_read, replay, set_bytes};
@@ -37,6 +38,8 @@ pub enum Call<'a> {
     Trace(&'a [u8], Settings),
     /// The next fitting list from this number on, and the index of a point.
     NextList(u64, usize),
+    /// Tests a task set; this call has no file.
+    Deadlines(TaskSet<'a>),
 }
 
 pub type Answer = Result<Vec<u8>, Refusal>;
@@ -99,7 +102,7 @@ impl Reference {
             Call::NextRead(..) => 24,
             Call::Region(..) => 72,
             Call::Charged(_) | Call::ChargedPlan => 272,
-            Call::Replay(_) => 16,
+            Call::Replay(_) | Call::Deadlines(_) => 16,
             Call::NextList(..) => 48,
             Call::Generate(request) => request.length() as usize,
             Call::Join(second) => self.with(second).length(),
@@ -172,6 +175,10 @@ impl Reference {
             Call::ChargedPlan => self.charged_plan(),
             Call::Replay(list) => self.replayed(&points_in(list)),
             Call::NextList(start, i) => self.next_list(start, i),
+            Call::Deadlines(set) => {
+                given(set.refused())?;
+                Ok(set.bytes())
+            }
             Call::Generate(_) | Call::Join(_) | Call::Trace(..) => unreachable!(),
         }
     }

@@ -5,6 +5,7 @@ pub mod bytes;
 pub mod calls;
 pub mod charges;
 pub mod choice;
+pub mod deadlines;
 pub mod files;
 pub mod joining;
 pub mod lines;

@@ -1,0 +1,75 @@
+-- `deadlines::read_set` is safe and ends: each line begins behind the one before. Assumes nothing.
+use borrow.Author.Needs.{needs}
+use Prim.Native.Nat.{_+_, _-_, _≤_}
+use lib.ListN.{length}
+use Rattle.deadlines.proofs.read_set.Statement.{statement}
+use Rattle.deadlines.proofs.read_set.Tie as tie
+
+abbrev Inv-loop : tie.InvT-loop
+Inv-loop text set₀ at₀ set at = at ≤ length text + 1
+
+abbrev μ-loop : tie.MeasureT-loop
+μ-loop text set₀ at₀ set at = length text + 1 - at
+
+no-tasks-requires : tie.Need-no-tasks-requires Inv-loop μ-loop
+no-tasks-requires c κs = search needs
+
+loop-holds : tie.Need-loop-holds Inv-loop μ-loop
+loop-holds c = search needs
+
+find-requires : tie.Need-find-requires Inv-loop μ-loop
+find-requires c κs = search needs
+
+sub-read-line : tie.Need-sub-read-line Inv-loop μ-loop
+sub-read-line c = search needs
+
+part-read-line-start : tie.Need-part-read-line-start Inv-loop μ-loop
+part-read-line-start c = search needs
+
+part-read-line-end : tie.Need-part-read-line-end Inv-loop μ-loop
+part-read-line-end c = search needs
+
+read-line-requires : tie.Need-read-line-requires Inv-loop μ-loop
+read-line-requires c κs = search needs
+
+returns : tie.Need-returns Inv-loop μ-loop
+returns c = search needs
+
+task-of-requires : tie.Need-task-of-requires Inv-loop μ-loop
+task-of-requires c κs = search needs
+
+with-task-requires : tie.Need-with-task-requires Inv-loop μ-loop
+with-task-requires c κs = search needs
+
+add-at : tie.Need-add-at Inv-loop μ-loop
+add-at c = search needs
+
+loop-less : tie.Need-loop-less Inv-loop μ-loop
+loop-less c = search needs
+
+loop-again : tie.Need-loop-again Inv-loop μ-loop
+loop-again c = search needs
+
+returns-2 : tie.Need-returns-2 Inv-loop μ-loop
+returns-2 c = search needs
+
+pub read-set-spec : {M : Type 1} → statement M
+read-set-spec =
+    tie.close
+    (tie.spec
+    Inv-loop
+    μ-loop
+    no-tasks-requires
+    loop-holds
+    find-requires
+    sub-read-line
+    part-read-line-start
+    part-read-line-end
+    read-line-requires
+    returns
+    task-of-requires
+    with-task-requires
+    add-at
+    loop-less
+    loop-again
+    returns-2)

@@ -1,0 +1,16 @@
+pub mod Jobs
+pub mod Joined
+pub mod AtInstant
+pub mod Ranges
+pub mod Places
+pub mod Decided
+pub mod Blocking
+pub mod Visits
+pub mod Records
+pub mod Filling
+pub mod Passing
+pub mod Answers
+pub mod Loaded
+pub mod Instants
+pub mod Sizes
+pub mod Cases

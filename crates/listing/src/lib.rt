@@ -170,7 +170,7 @@ fn weigh_row(
     let mut region = CountedRegion::at(header, a);
     while region.to < n {
         region = region.longer(file, counts);
-        let weighed = regions::weigh(header, region.time, region.limit, region.lines);
+        let weighed = region.weigh(header);
         let at = 17 * a + region.to;
         fits[at] = weighed.fits;
         lines[at] = region.lines;

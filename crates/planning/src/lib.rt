@@ -105,7 +105,7 @@ fn choose(
     let mut choice = Choice::untried(n);
     while region.to < n {
         region = region.longer(file, counts);
-        let weighed = regions::weigh(header, region.time, region.limit, region.lines);
+        let weighed = region.weigh(header);
         if !weighed.fits {
             return choice;
         }

@@ -38,18 +38,12 @@ pub record Counted (t : Task) (r : CountedRegion) : Type 0 where
   pub few : r .lines ≤ 512
   pub run : RunBetween t (r .from) (r .to) (r .time) (r .limit)
 
--- the header's numbers of a task t, and of its region from edge a to edge b the times, the limit that counts for it, and the lines
-pub record Described (t : Task) (a b : ℕ) (header : Header) (time limit lines : ℕ) : Type 0 where
-  pub header-is : header ≡ t .header
-  pub run-is : RunBetween t a b time limit
-  pub lines-are : lines ≡ regionLines t a b
-
--- the length, the cost and the fit of whatever region these numbers describe
-pub record Weighs (header : Header) (time limit lines : ℕ) (r : Weighed) : Type 0 where
-  pub length : (t : Task) (a b : ℕ) → Described t a b header time limit lines → r .length ≡ regionLength t a b
-  pub cost : (t : Task) (a b : ℕ) → Described t a b header time limit lines → r .cost ≡ regionCost t a b
-  pub fits : (t : Task) (a b : ℕ) → Described t a b header time limit lines → r .fits ≡ regionFits t a b
-  pub small : r .cost < 2 ^ 48
+-- the length, the cost and the fit of a region of whatever task has this header
+pub record Weighs (header : Header) (r : CountedRegion) (w : Weighed) : Type 0 where
+  pub length : (t : Task) → header ≡ t .header → Counted t r → w .length ≡ regionLength t (r .from) (r .to)
+  pub cost : (t : Task) → header ≡ t .header → Counted t r → w .cost ≡ regionCost t (r .from) (r .to)
+  pub fits : (t : Task) → header ≡ t .header → Counted t r → w .fits ≡ regionFits t (r .from) (r .to)
+  pub small : w .cost < 2 ^ 48
 
 -- the length, the cost and the fit of the region from edge a to edge b
 abbrev pub WeighsRegion : Task → ℕ → ℕ → Weighed → Type 0

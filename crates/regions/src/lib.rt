@@ -67,7 +67,14 @@ pub fn weigh_between(file: &[u8], a: usize, b: usize, lines: u32) -> Weighed
 {
     let header = taskfile::header(file);
     let run = run_between(file, a, b);
-    weigh(header, run.time, run.limit, lines)
+    let region = CountedRegion {
+        from: a,
+        to: b,
+        lines,
+        time: run.time,
+        limit: run.limit,
+    };
+    region.weigh(header)
 }
 
 // Blocks a + 1 to b.
@@ -123,20 +130,21 @@ impl CountedRegion {
             limit,
         }
     }
-}
 
-// The length, the cost and the fit of a region of these times and lines, and for which this limit counts.
-pub fn weigh(header: Header, time: u64, limit: u32, lines: u32) -> Weighed
-    requires { ⌜ (time ≤ 64 * 4294967295) × (lines ≤ 512) ⌝ }
-    ensures { λ r. ⌜ Weighs header time limit lines r ⌝ }
-{
-    let cost = header.reload as u64 * lines as u64;
-    let length = time + cost;
-    let limit = limit as u64;
-    Weighed {
-        length,
-        cost,
-        fits: length <= limit,
+    // The region's length, its cost and whether it fits.
+    pub fn weigh(self, header: Header) -> Weighed
+        requires { ⌜ (self .time ≤ 64 * 4294967295) × (self .lines ≤ 512) ⌝ }
+        ensures { λ r. ⌜ Weighs header self r ⌝ }
+    {
+        let time = self.time;
+        let cost = header.reload as u64 * self.lines as u64;
+        let length = time + cost;
+        let limit = self.limit as u64;
+        Weighed {
+            length,
+            cost,
+            fits: length <= limit,
+        }
     }
 }
 

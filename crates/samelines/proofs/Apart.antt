@@ -45,7 +45,7 @@ unfolding Each headerInRange countsInRange scratchInRange headerNumbers
 within m n h l =
     record {
       in-range = refl;
-      numbers = (omega arith, (omega arith, (omega arith, (omega arith, (omega arith, (omega arith, (omega arith, (omega arith, (omega arith, (omega arith, (omega arith, tt)))))))))));
+      numbers = omega arith;
       blocks = (
         two-reads 20 0 1 (omega arith) (omega arith) (omega arith),
         (one-read 20 2 (omega arith) (omega arith), (one-read 20 0 (omega arith) (omega arith), (two-reads 20 5 0 (omega arith) (omega arith) (omega arith), tt))),

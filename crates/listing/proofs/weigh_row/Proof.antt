@@ -5,7 +5,7 @@ use mathlib.Core.Path.{_≡_, _∙_}
 use native.Mathlib.Omega.{arith}
 use borrow.Author.Needs.{needs}
 use Rattle.taskfile.specs.File.{taskOf}
-use Rattle.regions.specs.Measures.{Counted, Described}
+use Rattle.regions.specs.Measures.{Counted}
 use Rattle.listing.specs.Weights.{WeightsBefore}
 use Rattle.listing.proofs.Filling.{weights-same, weights-more}
 use Rattle.listing.proofs.weigh_row.Statement.{statement}
@@ -77,21 +77,6 @@ mul-costs c = omega (arith, below c)
 element-write-costs : tie.Need-element-write-costs Inv-loop μ-loop
 element-write-costs c = omega (arith, below c)
 
--- the region from edge a to its new end
-described : (c : tie.After-struct-known2 Inv-loop μ-loop)
-    → let start = c .before .before .before .before .before .before .before .before .before .before in
-    let region = c .before .before .longer .result in
-    Described (taskOf (start .args .file .now)) (start .args .a) (region .to) (c .before .before .before .before .before .before .before .header .result) (region .time)
-    (region .limit) (region .lines)
-described c =
-    let grown = c .before .before .longer .ensures in
-    let from = grown .1 ∙ c .before .before .before .before .before .loop .inv .1 in
-    record {
-      header-is = c .before .before .before .before .before .before .before .header .ensures .0;
-      run-is = rw from at (grown .0 .run);
-      lines-are = rw from at (grown .0 .lines);
-    }
-
 loop-less : tie.Need-loop-less Inv-loop μ-loop
 loop-less c = omega (arith, c .before .before .longer .ensures .2)
 
@@ -105,12 +90,14 @@ loop-again c =
     let b = region .result .to in
     let grown = region .ensures in
     let weighs = c .before .weigh .ensures in
+    let header-is = c .before .before .before .before .before .before .before .header .ensures .0 in
+    let from = grown .1 ∙ l .inv .1 in
     let back : suc (17 * a + l .region .to) ≡ 17 * a + b = omega (arith, grown .2) in (
       grown .0,
       grown .1 ∙ l .inv .1,
       omega (arith, grown .2),
-      weights-more a b (omega (arith, grown .2, l .inv .0 .rising, l .inv .1)) (grown .0 .within) (start .pre .0 .1) _ _ _ (weighs .fits t a b (described c))
-          (described c .lines-are) (weighs .cost t a b (described c)) (grown .0 .few) (weighs .small) (rw back at (l .inv .3)),
+      weights-more a b (omega (arith, grown .2, l .inv .0 .rising, l .inv .1)) (grown .0 .within) (start .pre .0 .1) _ _ _ (rw from at (weighs .fits t header-is (grown .0)))
+          (rw from at (grown .0 .lines)) (rw from at (weighs .cost t header-is (grown .0))) (grown .0 .few) (weighs .small) (rw back at (l .inv .3)),
     )
 
 returns : tie.Need-returns Inv-loop μ-loop

@@ -12,7 +12,7 @@ use Rattle.placement.specs.Rows.{Tried}
 use Rattle.placement.proofs.Rows.{tried-none, tried-all}
 use Rattle.taskfile.specs.File.{taskOf}
 use Rattle.taskfile.proofs.Accepted.{few-blocks}
-use Rattle.regions.specs.Measures.{Counted, Described}
+use Rattle.regions.specs.Measures.{Counted}
 use Rattle.planning.proofs.choose.Statement.{statement}
 use Rattle.planning.proofs.choose.Tie as tie
 
@@ -55,20 +55,14 @@ weigh-requires c κs =
     let counted = c .longer .ensures .0 in
     (omega (arith, counted .run .small, counted .within, few-blocks (start .args .file .now) (start .pre .0 .accepted)), counted .few)
 
--- the region from edge a to its new end
-described : (c : tie.After-weigh Inv-loop μ-loop)
-    → let start = c .before .before .before .before .before .before .before .before .before .before in
-    let region = c .before .longer .result in
-    Described (taskOf (start .args .file .now)) (start .args .a) (region .to) (c .before .before .before .before .before .before .before .header .result) (region .time)
-    (region .limit) (region .lines)
-described c =
-    let grown = c .before .longer .ensures in
-    let from = grown .1 ∙ c .before .before .before .before .loop .inv .1 in
-    record {
-      header-is = c .before .before .before .before .before .before .before .header .ensures .0;
-      run-is = rw from at (grown .0 .run);
-      lines-are = rw from at (grown .0 .lines);
-    }
+-- the region is still that from edge a
+from : (c : tie.After-weigh Inv-loop μ-loop) → c .before .longer .result .from ≡ c .before .before .before .before .before .before .before .before .before .before .args .a
+from c = c .before .longer .ensures .1 ∙ c .before .before .before .before .loop .inv .1
+
+-- and weighs what the definitions say
+header-is : (c : tie.After-weigh Inv-loop μ-loop)
+    → c .before .before .before .before .before .before .before .header .result ≡ taskOf (c .before .before .before .before .before .before .before .before .before .before .args .file .now) .header
+header-is c = c .before .before .before .before .before .before .before .header .ensures .0
 
 returns : tie.Need-returns Inv-loop μ-loop
 returns c =
@@ -77,7 +71,7 @@ returns c =
     let t = taskOf (start .args .file .now) in
     let region = weighed .before .longer in
     let above : regionFits t (start .args .a) (region .result .to) ≡ false =
-    sym (weighed .weigh .ensures .fits t (start .args .a) (region .result .to) (described weighed)) ∙ not-true (weighed .weigh .result .fits) (c .if2 .taken) in
+    sym (rw (from weighed) at (weighed .weigh .ensures .fits t (header-is weighed) (region .ensures .0))) ∙ not-true (weighed .weigh .result .fits) (c .if2 .taken) in
     rw (← weighed .before .before .before .before .before .before .before .before .block-count .ensures .0)
     (tried-all (λ k lo hi. longer-above t (start .args .a) (region .result .to) k (omega (arith, region .ensures .2)) above) (weighed .before .before .before .before .loop .inv .3))
 
@@ -111,8 +105,8 @@ loop-again c =
       grown .1 ∙ at .loop .inv .1,
       omega (arith, grown .2, weighed .before .before .if1 .taken),
       c .with .ensures .tried (regionFits t) (regionCost t) (regionLines t) a (omega (arith, grown .2, at .loop .inv .0 .rising, at .loop .inv .1))
-          (sym (weighs .fits t a b (described weighed)) ∙ not-false (weighed .weigh .result .fits) (c .before .before .if2 .left))
-          (weighs .cost t a b (described weighed)) (described weighed .lines-are) (rw back (at .loop .inv .3)),
+          (sym (rw (from weighed) at (weighs .fits t (header-is weighed) (grown .0))) ∙ not-false (weighed .weigh .result .fits) (c .before .before .if2 .left))
+          (rw (from weighed) at (weighs .cost t (header-is weighed) (grown .0))) (rw (from weighed) at (grown .0 .lines)) (rw back (at .loop .inv .3)),
     )
 
 returns-2 : tie.Need-returns-2 Inv-loop μ-loop

@@ -5,7 +5,7 @@ use borrow.Author.Needs.{needs}
 use Rattle.model.proofs.Regions.{lines-region}
 use Rattle.taskfile.specs.File.{taskOf}
 use Rattle.taskfile.proofs.Accepted.{few-blocks}
-use Rattle.regions.specs.Measures.{Described}
+use Rattle.regions.specs.Measures.{Counted}
 use Rattle.regions.proofs.weigh_between.Statement.{statement}
 use Rattle.regions.proofs.weigh_between.Tie as tie
 
@@ -26,14 +26,20 @@ weigh-requires c κs =
 returns : tie.Need-returns
 returns c =
     let start = c .before .before .before .before in
-    let t = taskOf (start .args .file .now) in
-    let a = start .args .a in
-    let b = start .args .b in
+    let file = start .args .file .now in
+    let t = taskOf file in
+    let run = c .before .run-between in
     let weighs = c .weigh .ensures in
-    let described : Described t a b (c .before .before .header .result) (c .before .run-between .result .time)
-    (c .before .run-between .result .limit) (start .args .lines) =
-    record { header-is = c .before .before .header .ensures .0; run-is = c .before .run-between .ensures; lines-are = start .pre .3 } in
-    (weighs .length t a b described, weighs .cost t a b described, weighs .fits t a b described, weighs .small)
+    let header-is = c .before .before .header .ensures .0 in
+    let counted : Counted t (record { from = start .args .a; to = start .args .b; lines = start .args .lines; time = run .result .time; limit = run .result .limit }) =
+    record {
+      rising = start .pre .1;
+      within = start .pre .2;
+      lines = start .pre .3;
+      few = omega (arith, start .pre .3, lines-region t (start .args .a) (start .args .b));
+      run = run .ensures;
+    } in
+    (weighs .length t header-is counted, weighs .cost t header-is counted, weighs .fits t header-is counted, weighs .small)
 
 pub weigh-between-spec : {M : Type 1} → statement M
 weigh-between-spec = tie.close (tie.spec header-requires run-between-requires weigh-requires returns)

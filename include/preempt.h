@@ -9,7 +9,7 @@
 extern "C" {
 #endif
 
-#define PREEMPT_VERSION "0.2.0"
+#define PREEMPT_VERSION "1.0.0"
 
 #define PREEMPT_BLOCK_BYTES 512
 #define PREEMPT_FILE_BYTES_MOST 49664 /* a task file of 97 blocks */
@@ -21,7 +21,7 @@ extern "C" {
 #define PREEMPT_PLAN_BLOCKS_AT 2  /* 2 bytes: basic blocks of the task */
 #define PREEMPT_PLAN_COUNT_AT 4   /* 2 bytes: points, at most 63 */
 #define PREEMPT_PLAN_LINES_AT 6   /* 2 bytes: lines reloaded */
-#define PREEMPT_PLAN_COST_AT 8    /* 8 bytes: ticks for these reloads */
+#define PREEMPT_PLAN_COST_AT 8    /* 8 bytes: ticks for these reloads and for the switch at each point */
 #define PREEMPT_PLAN_ID_AT 16     /* 4 bytes: the task's id */
 #define PREEMPT_PLAN_POINTS_AT 20 /* 2 bytes for each point, rising */
 

@@ -24,8 +24,8 @@ def block(number, start):
     return sealed(start.ljust(504, b"\0") + struct.pack("<I", number) + bytes(4))
 
 
-def header(n, m, s, q, r, ident, first=0, count=0, second=0):
-    return block(0, struct.pack("<BBHHHIIIIII", 1, 0, n, m, s, q, r, ident, first, count, second))
+def header(n, m, s, q, r, ident, first=0, count=0, second=0, switch=0):
+    return block(0, struct.pack("<BBHHHIIIIIII", 1, 0, n, m, s, q, r, ident, first, count, second, switch))
 
 
 def entry(kind, number, value, reads, armed=False):
@@ -33,10 +33,11 @@ def entry(kind, number, value, reads, armed=False):
 
 
 class Task:
-    def __init__(self, s, q, r, ident, blocks, preempters, first=0, count=0, second=0, armed=()):
+    def __init__(self, s, q, r, ident, blocks, preempters, first=0, count=0, second=0, armed=(), switch=0):
         self.s, self.q, self.r, self.ident = s, q, r, ident
         self.first, self.count = first, count  # the memory blocks that bypass the cache
         self.second, self.armed = second, set(armed)  # Q2, and the basic blocks in which the sampler is armed
+        self.switch = switch  # G
         self.blocks = blocks  # pairs of a time and the numbers read
         self.preempters = preempters  # pairs of an id and the numbers read
         self.n = len(blocks)
@@ -52,7 +53,7 @@ class Task:
         return {m % self.s for m in self.cached(reads)}
 
     def file(self):
-        b = header(self.n, len(self.preempters), self.s, self.q, self.r, self.ident, self.first, self.count, self.second)
+        b = header(self.n, len(self.preempters), self.s, self.q, self.r, self.ident, self.first, self.count, self.second, self.switch)
         for i, (time, reads) in enumerate(self.blocks):
             b += entry(2, 1 + i, time, reads, 1 + i in self.armed)
         for i, (ident, reads) in enumerate(self.preempters):
@@ -74,8 +75,12 @@ class Task:
         """Useful at a, evicted, and read in the region, be it for the last time."""
         return self.useful[a] & self.evicted & set().union(*self.accessed[a + 1 : b + 1])
 
+    def cost(self, a, b):
+        """What a region adds to the cost of a list: its reloads, and G if it starts at a point."""
+        return self.r * len(self.loaded(a, b)) + (self.switch if a > 0 else 0)
+
     def length(self, a, b):
-        return sum(time for time, _ in self.blocks[a:b]) + self.r * len(self.loaded(a, b))
+        return sum(time for time, _ in self.blocks[a:b]) + self.cost(a, b)
 
     def fits(self, a, b):
         """Within Q, and within Q2 too if one of blocks a + 1 to b is armed."""
@@ -100,14 +105,14 @@ class Task:
         for a, b in regions:
             for c in self.loaded(a, b):
                 charges[[c in t for t in touched].index(True)] += 1
-        return lines, self.r * lines, charges
+        return lines, self.r * lines + self.switch * len(points), charges
 
     def plan(self):
         """The first list of least cost, or None. Python orders lists as item 1 does: from the front, and a list before those it begins."""
         least = {self.n: (0, [])}
         for a in reversed(range(self.n)):
             found = [
-                (self.r * len(self.loaded(a, b)) + least[b][0], ([b] if b < self.n else []) + least[b][1])
+                (self.cost(a, b) + least[b][0], ([b] if b < self.n else []) + least[b][1])
                 for b in range(a + 1, self.n + 1)
                 if b in least and self.fits(a, b)
             ]
@@ -134,12 +139,26 @@ def armed_seven(second, armed):
     return task
 
 
+def switched_seven(q, switch, **others):
+    """File Seven with this Q and G."""
+    task = seven(q, **others)
+    task.switch = switch
+    return task
+
+
+def switched_armed_seven(second):
+    """File Seven at Q 60 with G 5, this Q2 and block 4 armed."""
+    task = armed_seven(second, [4])
+    task.switch = 5
+    return task
+
+
 def join(one, other):
     """Both tasks as one."""
-    assert (one.s, one.r, one.first, one.count) == (other.s, other.r, other.first, other.count)
+    assert (one.s, one.r, one.first, one.count, one.switch) == (other.s, other.r, other.first, other.count, other.switch)
     blocks, preempters = one.blocks + other.blocks, one.preempters + other.preempters
     second, armed = min(one.second, other.second), one.armed | {one.n + k for k in other.armed}
-    return Task(one.s, min(one.q, other.q), one.r, one.ident, blocks, preempters, one.first, one.count, second, armed)
+    return Task(one.s, min(one.q, other.q), one.r, one.ident, blocks, preempters, one.first, one.count, second, armed, one.switch)
 
 
 # A file as the document has it, but that one or more bytes are changed: (block, position) to value.
@@ -186,7 +205,7 @@ def taskfile_cases():
         return damaged(f, changes, seal=False)
 
     one = small_header(1, 0, 4) + empty_entries(1, 0)
-    any_value = Task(4, MOST, MOST, MOST, [(MOST, [MOST, 0, MOST])], [(MOST, [MOST, 0])], second=MOST, armed=[1])
+    any_value = Task(4, MOST, MOST, MOST, [(MOST, [MOST, 0, MOST])], [(MOST, [MOST, 0])], second=MOST, armed=[1], switch=MOST)
     all_zero = Task(1, 0, 0, 0, [(0, [0, 0])], [(0, [0])])
     full = entry(2, 1, 20, list(range(124)))
     full_file = small_header(1, 0, 4) + full
@@ -214,7 +233,7 @@ def taskfile_cases():
         ("header-number", bad({(0, 504): 1}), "refused 3 at 0"),
         ("header-number-high", bad({(0, 507): 1}), "refused 3 at 0"),
         ("header-byte-1", bad({(0, 1): 1}), "refused 3 at 0"),
-        ("header-byte-32", bad({(0, 32): 1}), "refused 3 at 0"),
+        ("header-byte-36", bad({(0, 36): 1}), "refused 3 at 0"),
         ("header-byte-503", bad({(0, 503): 1}), "refused 3 at 0"),
         ("n-0", small_header(0, 1, 4) + empty_entries(0, 1), "refused 3 at 0"),
         ("n-65", small_header(65, 0, 4) + empty_entries(65, 0), "refused 3 at 0"),
@@ -222,8 +241,8 @@ def taskfile_cases():
         ("m-33", small_header(1, 33, 4) + empty_entries(1, 33), "refused 3 at 0"),
         ("s-0", small_header(1, 0, 0) + empty_entries(1, 0), "refused 3 at 0"),
         ("s-513", small_header(1, 0, 513) + empty_entries(1, 0), "refused 3 at 0"),
-        # each byte of the scratch range's first number and of its count, and of Q2; and the sums of the range
-        *((f"header-byte-{at}", bad({(0, at): 255}), good) for at in range(20, 32)),
+        # each byte of the scratch range's first number and of its count, of Q2 and of G; and the sums of the range
+        *((f"header-byte-{at}", bad({(0, at): 255}), good) for at in range(20, 36)),
         ("scratch-first-largest", scratch(MOST, 0), good),
         ("scratch-count-largest", scratch(0, MOST), good),
         ("scratch-first-to-2-32", scratch(MOST, 1), good),
@@ -270,7 +289,7 @@ def taskfile_cases():
         ("blocks-swapped", f[:512] + f[1024:1536] + f[512:1024] + f[1536:], "refused 5 at 1"),
         ("header-and-sum-4", damaged(bad({(0, 0): 2}), {(4, 4): 1}, seal=False), "refused 2 at 4"),
         ("header-and-count", bad({(0, 1): 1})[: 5 * 512], "refused 3 at 0"),
-        ("header-and-block-1", bad({(0, 32): 1, (1, 1): 2}), "refused 3 at 0"),
+        ("header-and-block-1", bad({(0, 36): 1, (1, 1): 2}), "refused 3 at 0"),
         ("count-and-block-2", bad({(2, 0): 9})[: 5 * 512], "refused 4 at 0"),
         ("count-and-sum-2", unsealed({(2, 8): 77})[: 5 * 512], "refused 2 at 2"),
         ("block-1-and-sum-5", damaged(bad({(1, 0): 3}), {(5, 9): 1}, seal=False), "refused 2 at 5"),
@@ -304,6 +323,8 @@ def planner_tasks():
     preempters = [(1, [812]), (2, [0])]  # lines 300 and 0
     others = [(MOST, [1024, 0, 512]), (0, [300, 1324])]  # lines 0 and 300
     wide = [(MOST, [1]), (1, []), (0, [1]), (0, [1])]  # points 1 and 2 are in every list that fits; 3 reloads line 1 once more
+    dear = [(40, [0]), (10, [1, 2]), (10, [1, 2]), (40, [3])]  # point 2 reloads two lines, and 1, 3 none
+    halves = [(2**31 - 1, [])] * 4  # behind a point one of them fits, and before all points two
     return [
         ("seven-70", seven(70)),  # 1 and 1, 2 cost the same, and 1 begins the other
         ("seven-60", seven(60)),
@@ -320,6 +341,11 @@ def planner_tasks():
         ("charged-4-then-1", charged_seven([4], [1])),  # the same lines together as the next, and other charges
         ("charged-1-then-4", charged_seven([1], [4])),
         *((f"seven-armed-{name}", armed_seven(second, armed)) for name, second, armed in ARMED),
+        *((f"seven-switch-{q}", switched_seven(q, 5)) for q in [80, 60, 55, 50, 40, 35, 34]),
+        *((f"seven-long-switch-{q}", switched_seven(q, 100)) for q in [80, 79]),
+        ("seven-switch-scratch", switched_seven(60, 5, first=0, count=1)),  # a switch is paid for though nothing is reloaded
+        *((f"seven-switch-armed-4-{second}", switched_armed_seven(second)) for second in [35, 34]),
+        *((f"dear-switch-{switch}", Task(4, 55, 1, 7, dear, [(1, [1, 2])], switch=switch)) for switch in [1, 2, 3]),  # 2: the same cost
         ("one-60", seven(60, lone)),
         ("one-59", seven(59, lone)),
         ("last-read", seven(40, [(20, [0]), (20, [2]), (20, [0])])),  # the last read of line 0 is its only reload
@@ -329,13 +355,14 @@ def planner_tasks():
         ("high-45-other", Task(512, 45, 10, 3, high, others)),
         ("high-scratch", Task(512, 45, 10, 3, high, preempters, 300, 213)),  # 300 and 512 are the ends of the range
         ("wide", Task(512, MOST, MOST, MOST, wide, [(0, [1])])),
+        ("wide-switch", Task(512, MOST, MOST, MOST, halves, [], switch=2**31)),
         ("largest", largest_task()),
     ]
 
 
 def joined_tasks():
-    ticket = Task(8, 100, 5, 21, [(30, [1, 2, 64]), (25, [3, 1])], [(501, [9])], 64, 8, 80, [2])
-    archive = Task(8, 90, 5, 22, [(20, [2, 3]), (35, [11, 65]), (15, [2, 3])], [(502, [10, 70]), (503, [])], 64, 8, 75, [1, 3])
+    ticket = Task(8, 100, 5, 21, [(30, [1, 2, 64]), (25, [3, 1])], [(501, [9])], 64, 8, 80, [2], 3)
+    archive = Task(8, 90, 5, 22, [(20, [2, 3]), (35, [11, 65]), (15, [2, 3])], [(502, [10, 70]), (503, [])], 64, 8, 78, [1, 3], 3)
     return [
         ("ticket", ticket),
         ("archive", archive),

@@ -81,6 +81,13 @@ writes() {
     printf '%s\nshould write the bytes of %s\n' "$*" "$right"
 }
 
+# ends_at_id FILE: the file's header has no number behind the id: no range, Q2 0 and G 0
+ends_at_id() {
+    [ -z "$(od -An -v -tu1 -j20 -N484 "$1" | tr -d ' 0\n')" ] && return
+    failed=1
+    echo 'a file that is made has a number behind its id'
+}
+
 # prices FILE LINES CHARGES POINT..: of these points price prints these lines, and then one for each preempter, "I id X lines L"
 prices() {
     file=$1 lines=$2 charges=$3
@@ -176,6 +183,71 @@ prices $seven-armed-all-40 "$at_2_3" '0 id 1 lines 2' 2 3
 prints $seven-armed-all-40 "$at_1_2_3" plan
 prints $seven-armed-all-70 'refused 8 at 1' price 1
 
+# File Seven with G 5: a region that starts at a point is 5 longer and costs 5 more
+switched_at_2='task 7 blocks 4 points 1 lines 1 cost 15
+region 0 2 length 40
+region 2 4 length 55'
+switched_at_3='task 7 blocks 4 points 1 lines 1 cost 15
+region 0 3 length 60
+region 3 4 length 35'
+switched_at_1_2='task 7 blocks 4 points 2 lines 1 cost 20
+region 0 1 length 20
+region 1 2 length 25
+region 2 4 length 55'
+switched_at_2_3='task 7 blocks 4 points 2 lines 2 cost 30
+region 0 2 length 40
+region 2 3 length 35
+region 3 4 length 35'
+switched_at_1_2_3='task 7 blocks 4 points 3 lines 2 cost 35
+region 0 1 length 20
+region 1 2 length 25
+region 2 3 length 35
+region 3 4 length 35'
+at_none='task 7 blocks 4 points 0 lines 0 cost 0
+region 0 4 length 80'
+prints $seven-switch-80 "$at_none" plan
+prints $seven-switch-60 "$switched_at_2" plan
+prices $seven-switch-60 "$switched_at_2" '0 id 1 lines 1' 2
+prices $seven-switch-60 "$switched_at_3" '0 id 1 lines 1' 3
+prices $seven-switch-60 "$switched_at_1_2" '0 id 1 lines 1' 1 2
+prints $seven-switch-60 'refused 8 at 0' price
+prints $seven-switch-60 'refused 8 at 1' price 1
+prints $seven-switch-55 "$switched_at_2" plan
+prices $seven-switch-55 "$switched_at_2" '0 id 1 lines 1' 2
+prints $seven-switch-50 "$switched_at_2_3" plan
+prints $seven-switch-50 'refused 8 at 1' price 2
+prints $seven-switch-40 "$switched_at_2_3" plan
+prices $seven-switch-40 "$switched_at_1_2_3" '0 id 1 lines 2' 1 2 3
+prints $seven-switch-35 "$switched_at_1_2_3" plan
+prices $seven-switch-35 "$switched_at_1_2_3" '0 id 1 lines 2' 1 2 3
+prints $seven-switch-34 'refused 6 at 0' plan
+prints $seven-switch-34 'refused 8 at 2' price 1 2 3
+prints $seven-long-switch-80 "$at_none" plan
+prints $seven-long-switch-80 'refused 8 at 1' price 2
+prints $seven-long-switch-79 'refused 6 at 0' plan
+
+# nothing is reloaded, and a switch is paid for; with Q2 a region fits with its switch
+prints $seven-switch-scratch 'task 7 blocks 4 points 1 lines 0 cost 5
+region 0 2 length 40
+region 2 4 length 45' plan
+prints $seven-switch-armed-4-35 "$switched_at_3" plan
+prints $seven-switch-armed-4-34 'refused 6 at 0' plan
+prints $seven-switch-armed-4-34 'refused 8 at 1' price 3
+
+# two lines or one point more: at G 2 they cost the same with R 1, and 1, 3 comes before 2
+dear=crates/planner_cases/data/dear-switch
+prints $dear-2 'task 7 blocks 4 points 2 lines 0 cost 4
+region 0 1 length 40
+region 1 3 length 22
+region 3 4 length 42' plan
+prints $dear-3 'task 7 blocks 4 points 1 lines 2 cost 5
+region 0 2 length 50
+region 2 4 length 55' plan
+prints crates/planner_cases/data/wide-switch 'task 4294967295 blocks 4 points 2 lines 0 cost 4294967296
+region 0 2 length 4294967294
+region 2 3 length 4294967295
+region 3 4 length 4294967295' plan
+
 # all fitting lists by number: number and price
 from_2='2 10
 3 10
@@ -190,6 +262,25 @@ prints $seven-40 '6 20
 prints $seven-60 "$from_2" lists
 prints $seven-70 "1 10
 $from_2" lists
+prints $seven-switch-80 '0 0
+1 15
+2 15
+3 20
+4 15
+5 30
+6 30
+7 35' lists
+prints $seven-switch-60 '2 15
+3 20
+4 15
+5 30
+6 30
+7 35' lists
+prints $seven-switch-40 '6 30
+7 35' lists
+prints $seven-switch-34 '' lists
+prints $seven-long-switch-80 '0 0' lists
+prints $seven-long-switch-79 '' lists
 prints crates/planner_cases/data/one-60 '0 0' lists
 prints crates/planner_cases/data/one-59 '' lists
 prints /dev/null 'refused 1 at 0' lists
@@ -214,6 +305,11 @@ prints $seven-60 'misses 4 with points 5' replay 1 2
 prints $seven-29 'misses 4 with points 6' replay 1 2 3
 prints $seven-60 'refused 7 at 1' replay 2 2
 prints $seven-60 'refused 7 at 0' replay 4
+# the same with any G
+for list in '' 1 2 3 '1 2' '1 3' '2 3' '1 2 3' '2 2' 0 4; do
+    alike $seven-60 $seven-switch-60 replay $list
+    alike $seven-60 $seven-long-switch-79 replay $list
+done
 
 # number 0 of File Seven bypasses the cache: a search looks at it and goes on, a replay counts it as neither hit nor miss
 prints $seven-scratch 'task 7 blocks 4 points 1 lines 0 cost 0
@@ -341,6 +437,7 @@ for numbers in '0 1 0 1 0 0' '7 16 3 256 20000 25' '4294967295 64 32 512 4294967
     prints "$made" 'refused 7 at 0' price 0
 done
 [ "$(wc -c <"$made")" -eq 49664 ] || { failed=1; echo 'the largest file from a seed is not 49664 bytes'; }
+ends_at_id "$made"
 reports 'refused 10 at 0' generate 1 0 0 1 0 0
 reports 'refused 10 at 0' generate 1 65 0 1 0 0
 reports 'refused 10 at 0' generate 1 1 33 1 0 0
@@ -389,6 +486,8 @@ makes "$made" trace 1 2 4294967295 1 0 0 0
 yes '0 1' | head -n 7936 >"$input"
 makes "$made" trace 1 124 1 1 0 0 0
 [ "$(wc -c <"$made")" -eq 33280 ] || { failed=1; echo 'the largest file from a trace is not 33280 bytes'; }
+makes "$made" trace 1 124 1 512 4294967295 4294967295 4294967295
+ends_at_id "$made"
 yes '0 1' | head -n 7937 >"$input"
 reports 'refused 14 at 0' trace 1 124 1 1 0 0 0
 # a malformed line is found far behind what a file holds
@@ -401,16 +500,15 @@ usage trace 1 1 1 1 0 0 0 0
 usage trace 4294967296 1 1 1 0 0 0
 usage trace 1 1 1 1 0 0 -1
 
-# two files joined: the smaller Q and Q2, the first's id, the basic blocks of both, then the preempters of both
+# two files joined: the smaller Q and Q2, the first's id, the G of both, the basic blocks of both, then the preempters of both
 writes $joined/ticket-archive join $joined/ticket $joined/archive
-prints "$made" 'task 21 blocks 5 points 1 lines 1 cost 5
+prints "$made" 'task 21 blocks 5 points 1 lines 1 cost 8
 region 0 2 length 55
-region 2 5 length 75' plan
+region 2 5 length 78' plan
 writes $joined/archive-ticket join $joined/archive $joined/ticket
-prints "$made" 'task 22 blocks 5 points 2 lines 1 cost 5
-region 0 1 length 20
-region 1 2 length 35
-region 2 5 length 75' plan
+prints "$made" 'task 22 blocks 5 points 1 lines 1 cost 8
+region 0 2 length 55
+region 2 5 length 78' plan
 
 # of three files either two are joined first
 makes "$parts/three" join $joined/ticket-archive $joined/ticket
@@ -448,6 +546,18 @@ prints "$made" 'lines 0' useful 7
 prints "$made" 'misses 6 with points 7' replay 4
 prints "$made" 'misses 6 with points 11' replay 1 2 3 4 5 6 7
 
+# File Seven with G 5, twice
+makes "$made" join $seven-switch-60 $seven-switch-80
+switched='task 7 blocks 8 points 3 lines 2 cost 35
+region 0 3 length 60
+region 3 5 length 55
+region 5 6 length 25
+region 6 8 length 55'
+prints "$made" "$switched" plan
+prices "$made" "$switched" '0 id 1 lines 2
+1 id 1 lines 0' 3 5 6
+prints "$made" 'refused 8 at 1' price 3
+
 # 64 basic blocks and 32 preempters, and one more of either
 makes "$parts/63-31" generate 1 63 31 4 0 10
 makes "$parts/1-1" generate 2 1 1 4 0 10
@@ -460,11 +570,14 @@ reports 'refused 12 at 0' join "$parts/63-31" "$parts/2-1"
 reports 'refused 12 at 0' join "$parts/1-2" "$parts/63-31"
 reports 'refused 12 at 0' join $largest $largest
 
-# another S, R or range, though it may have no number; before 12
+# another S, R, range, though it may have no number, or G; before 12
 reports 'refused 11 at 0' join $seven-60 $high
 reports 'refused 11 at 0' join $high crates/planner_cases/data/wide
 reports 'refused 11 at 0' join $largest $high
-for byte in 20 21 22 23 24 25 26 27; do
+reports 'refused 11 at 0' join $seven-60 $seven-switch-60
+reports 'refused 11 at 0' join $seven-switch-60 $seven-60
+reports 'refused 11 at 0' join $seven-switch-80 $seven-long-switch-80
+for byte in 20 21 22 23 24 25 26 27 32 33 34 35; do
     reports 'refused 11 at 0' join $seven-60 $damaged/header-byte-$byte
     reports 'refused 11 at 0' join $damaged/header-byte-$byte $seven-60
 done

@@ -65,7 +65,7 @@ pub fn price(file: &[u8], points: &[u16], out: &mut [u8]) -> Returned {
     let ends = &list[..=points.len()];
     let (sizes, charges) = walk(&task, ends);
     let lines = weigh(&task, ends, sizes)?;
-    let numbers = [lines, task.reload * lines];
+    let numbers = [lines, task.cost(lines, points.len())];
     let numbers = numbers
         .into_iter()
         .chain(charges[..32].iter().map(|&c| c as u64));

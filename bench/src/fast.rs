@@ -72,7 +72,8 @@ pub struct Task<'a> {
     pub lines: Lines,
     limit: u64,
     second: u64,
-    pub reload: u64,
+    reload: u64,
+    switch: u64,
     id: u32,
     blocks: &'a [u8],
     preempters: &'a [u8],
@@ -99,10 +100,23 @@ impl Task<'_> {
         }
     }
 
+    /// The switch of a region from edge a: none if no point is there.
+    fn switch_at(&self, a: usize) -> u64 {
+        match a {
+            0 => 0,
+            _ => self.switch,
+        }
+    }
+
     /// The length of a region that reloads so many lines.
     pub fn length(&self, a: usize, b: usize, lines: u64) -> u64 {
         let times: u64 = (a + 1..=b).map(|k| self.time(k)).sum();
-        times + self.reload * lines
+        times + self.reload * lines + self.switch_at(a)
+    }
+
+    /// The cost of a list of so many points that reloads so many lines.
+    pub fn cost(&self, lines: u64, points: usize) -> u64 {
+        self.reload * lines + self.switch * points as u64
     }
 }
 
@@ -139,7 +153,7 @@ pub fn open(file: &[u8]) -> Result<Task<'_>, Refusal> {
         || s == 0
         || s > 512
         || scratch.0 as u64 + scratch.1 as u64 > 1 << 32
-        || !all_zero(&header[32..508])
+        || !all_zero(&header[36..508])
     {
         return Err(refusal(3, 0));
     }
@@ -165,6 +179,7 @@ pub fn open(file: &[u8]) -> Result<Task<'_>, Refusal> {
         limit: get32(header, 8) as u64,
         second: get32(header, 28) as u64,
         reload: get32(header, 12) as u64,
+        switch: get32(header, 32) as u64,
         id: get32(header, 16),
         blocks,
         preempters,
@@ -225,7 +240,8 @@ fn choose<M: Method>(task: &Task, method: &M) -> Option<(Ends, u64)> {
         next: n,
     }; MOST_BASIC + 1];
     for a in (0..n).rev() {
-        let mut sum = 0;
+        let switch = task.switch_at(a);
+        let mut sum = switch;
         let mut limit = task.limit;
         let mut best = Rest {
             cost: NONE,
@@ -247,6 +263,8 @@ fn choose<M: Method>(task: &Task, method: &M) -> Option<(Ends, u64)> {
             best.next = select_unpredictable(better, b, best.next);
             true
         });
+        // All regions from here have the same switch.
+        best.cost += switch;
         rests[a] = best;
     }
     if rests[0].cost >= NONE {
@@ -283,7 +301,7 @@ fn store(task: &Task, points: &[u16], lines: u64, block: &mut [u8]) {
     block[2..4].copy_from_slice(&(task.n as u16).to_le_bytes());
     block[4..6].copy_from_slice(&(points.len() as u16).to_le_bytes());
     block[6..8].copy_from_slice(&(lines as u16).to_le_bytes());
-    block[8..16].copy_from_slice(&(task.reload * lines).to_le_bytes());
+    block[8..16].copy_from_slice(&task.cost(lines, points.len()).to_le_bytes());
     block[16..20].copy_from_slice(&task.id.to_le_bytes());
     for (place, p) in block[20..].chunks_exact_mut(2).zip(points) {
         place.copy_from_slice(&p.to_le_bytes());

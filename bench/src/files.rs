@@ -17,6 +17,8 @@ pub struct Shape {
     pub reload: u32,
     /// The first memory block that bypasses the cache, and how many do.
     pub scratch: (u32, u32),
+    /// G.
+    pub switch: u32,
     /// As many numbers lie on each line. With one of them every line that is read again is useful until then.
     pub on_line: u32,
 }
@@ -29,6 +31,7 @@ pub const LARGEST: Shape = Shape {
     limit: 5000,
     reload: 10,
     scratch: (0, 0),
+    switch: 0,
     on_line: 2,
 };
 
@@ -65,6 +68,7 @@ fn header(shape: &Shape, id: u32) -> Vec<u8> {
     put(&mut block, 16, &id.to_le_bytes());
     put(&mut block, 20, &shape.scratch.0.to_le_bytes());
     put(&mut block, 24, &shape.scratch.1.to_le_bytes());
+    put(&mut block, 32, &shape.switch.to_le_bytes());
     seal(&mut block, 0);
     block
 }
@@ -213,7 +217,7 @@ impl Rng {
     }
 }
 
-/// Any file within the limits: N, M, S, the reads, times, limits and reloads small or large, with a scratch range or none.
+/// Any file within the limits: N, M, S, the reads, times, limits, reloads and switches small or large, with a scratch range or none.
 pub fn any(rng: &mut Rng) -> Vec<u8> {
     let s = 1 + rng.up_to_one_of(&[3, 15, 511]);
     let numbers = s * (1 + rng.below(3));
@@ -232,6 +236,7 @@ pub fn any(rng: &mut Rng) -> Vec<u8> {
         limit: rng.up_to_one_of(&[100, 2000, 20000, u32::MAX - 1]),
         reload: rng.up_to_one_of(&[0, 1, 20, u32::MAX - 1]),
         scratch,
+        switch: rng.up_to_one_of(&[0, 0, 20, 20, 2000, u32::MAX - 1]),
         on_line: 0,
     };
     let mut file = header(&shape, rng.below(u32::MAX));
@@ -243,6 +248,12 @@ pub fn any(rng: &mut Rng) -> Vec<u8> {
         reads(&mut file, kind, rng.below(time_most + 1), &list);
     }
     file
+}
+
+/// Another G in a file's header.
+pub fn set_switch(file: &mut [u8], switch: u32) {
+    put(file, 32, &switch.to_le_bytes());
+    seal(&mut file[..BLOCK], 0);
 }
 
 /// Makes a byte another one; half of the time the checksum of its block is right afterwards.

@@ -24,7 +24,7 @@ pub fn join(first: &[u8], second: &[u8], out: &mut [u8]) -> Returned {
         place: place + 97,
     };
     let other = parts(second, open(second).map_err(in_second)?.n);
-    if [6..8, 12..16, 20..28]
+    if [6..8, 12..16, 20..28, 32..36]
         .into_iter()
         .any(|field| first[field.clone()] != second[field])
     {

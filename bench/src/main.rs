@@ -566,6 +566,14 @@ fn main() {
     for (name, files) in planned() {
         plan_row(&name, &files);
     }
+    let switched = Shape {
+        switch: 50,
+        ..LARGEST
+    };
+    plan_row(
+        "largest file, a switch of 50 ticks",
+        &rotated(|seed| drawn(&switched, seed)),
+    );
     let seven = [seven()];
     let largest = rotated(|seed| drawn(&LARGEST, seed));
     println!("a price with charges; plain: the same one walk");

@@ -4,7 +4,7 @@ use crate::cases::deadlines::KINDS;
 
 pub struct Counts(Vec<(String, u64)>);
 
-const SHAPES: [&str; 137] = [
+const SHAPES: [&str; 156] = [
     "2 above block 0",
     "5 in a basic block",
     "5 in an interrupter",
@@ -69,6 +69,23 @@ const SHAPES: [&str; 137] = [
     "armed, Q2 above Q",
     "6 by Q2 alone",
     "8 by Q2 alone",
+    "G 0",
+    "small G",
+    "G above all times",
+    "6 by G alone",
+    "8 by G alone",
+    "no points by G",
+    "other plan by fit",
+    "other plan by price",
+    "more lines by G",
+    "tie of other counts",
+    "plan with G, R 0",
+    "priced with G",
+    "switches above 2^32",
+    "region with G",
+    "charged with G",
+    "replay with G",
+    "listed with G",
     "file of 97 blocks",
     "end-aligned file",
     "start-aligned file",
@@ -92,6 +109,7 @@ const SHAPES: [&str; 137] = [
     "Q2 of the first",
     "Q2 of the second",
     "armed file joined",
+    "joined with G",
     "joined N 64",
     "joined M 32",
     "97 blocks joined",
@@ -102,6 +120,7 @@ const SHAPES: [&str; 137] = [
     "11 by range's first",
     "11 by range's count",
     "11 by empty ranges",
+    "11 by G",
     "11 before 12",
     "11 before 9",
     "12 by N",

@@ -1,7 +1,7 @@
 //! Random calls, of which each is made to both libraries and must be answered alike.
 
 use crate::probe::make_calls;
-use bench::files::{any, any_points, damage, seven, Rng};
+use bench::files::{any, any_points, damage, set_switch, seven, Rng};
 use std::process::exit;
 
 /// What a call returned and what it left in a lent buffer.
@@ -85,7 +85,14 @@ impl Trial {
     }
 }
 
-/// Holds both to the same answers until so many calls are made.
+/// Whether the older library knows header bytes 32 to 35, the switch; to one that does not they are zero bytes.
+fn old_has_switch() -> bool {
+    let mut file = seven();
+    set_switch(&mut file, 5);
+    old::plan(&file, &mut [0; 512]).is_ok()
+}
+
+/// Holds both to the same answers until so many calls are made. Files have no switch if the older library knows none.
 pub fn hold_alike(seed: u64, count: u64) {
     println!("seed {seed}, {count} calls");
     let mut trial = Trial {
@@ -96,6 +103,7 @@ pub fn hold_alike(seed: u64, count: u64) {
         returned: [0; 20],
     };
     let mut before = seven();
+    let switched = old_has_switch();
     while trial.made < count {
         trial.case += 1;
         trial.rng = Rng(seed.wrapping_mul(1 << 32).wrapping_add(trial.case));
@@ -106,10 +114,16 @@ pub fn hold_alike(seed: u64, count: u64) {
             5 => file.truncate(file.len() - 512),
             _ => {}
         }
+        if !switched && file.len() >= 512 && file[32..36] != [0; 4] {
+            set_switch(&mut file, 0);
+        }
         trial.firmware(&file);
         let twice = trial.rng.below(2) == 0;
         make_calls(&mut trial, &file, if twice { &file } else { &before });
         before = file;
+    }
+    if !switched {
+        print!("without a switch ");
     }
     print!("all alike: {} accepted", trial.returned[0]);
     for (number, times) in trial.returned.iter().enumerate().skip(1) {

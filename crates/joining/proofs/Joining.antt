@@ -66,11 +66,11 @@ join-accepts first second out e f a h l long =
 -- a joined task agrees with what both of its parts agree with
 agree-left : (t u v : Task) → Agreeing t u → Agreeing u v → Agreeing (joined t u) v
 unfolding joined joinedHeader
-agree-left t u v a b = record { lines = a .lines ∙ b .lines; reloads = a .reloads ∙ b .reloads; ranges = a .ranges ∙ b .ranges }
+agree-left t u v a b = record { lines = a .lines ∙ b .lines; reloads = a .reloads ∙ b .reloads; ranges = a .ranges ∙ b .ranges; switches = a .switches ∙ b .switches }
 
 agree-right : (t u v : Task) → Agreeing t u → Agreeing t (joined u v)
 unfolding joined joinedHeader
-agree-right t u v a = record { lines = a .lines; reloads = a .reloads; ranges = a .ranges }
+agree-right t u v a = record { lines = a .lines; reloads = a .reloads; ranges = a .ranges; switches = a .switches }
 
 pub joined-in-order : JoinedInOrder
 joined-in-order f g h two other three last a b c all l₁ l₂ l₃ l₄ =

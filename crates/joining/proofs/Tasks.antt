@@ -34,25 +34,28 @@ pub record Agreeing (t u : Task) : Type 0 where
   pub lines : lineCount t ≡ lineCount u
   pub reloads : t .header .reload ≡ u .header .reload
   pub ranges : t .header .scratch ≡ u .header .scratch
+  pub switches : t .header .switch ≡ u .header .switch
 
 pub agreeing : (t u : Task) → agree t u ≡ true → Agreeing t u
 unfolding agree
 agreeing t u e =
     let a = t .header in
     let b = u .header in
-    let all = and-eq-true-iff (eqb (a .«line_count») (b .«line_count») && eqb (a .reload) (b .reload) && eqb (a .scratch .first) (b .scratch .first)) _ .0 e in
+    let every = and-eq-true-iff (eqb (a .«line_count») (b .«line_count») && eqb (a .reload) (b .reload) && eqb (a .scratch .first) (b .scratch .first) && eqb (a .scratch .count) (b .scratch .count)) _ .0 e in
+    let all = and-eq-true-iff (eqb (a .«line_count») (b .«line_count») && eqb (a .reload) (b .reload) && eqb (a .scratch .first) (b .scratch .first)) _ .0 (every .0) in
     let three = and-eq-true-iff (eqb (a .«line_count») (b .«line_count») && eqb (a .reload) (b .reload)) _ .0 (all .0) in
     let two = and-eq-true-iff (eqb (a .«line_count») (b .«line_count»)) _ .0 (three .0) in
     record {
       lines = eqb-true _ _ (two .0);
       reloads = eqb-true _ _ (two .1);
       ranges = λ i. record { first = eqb-true (a .scratch .first) (b .scratch .first) (three .1) i; count = eqb-true (a .scratch .count) (b .scratch .count) (all .1) i };
+      switches = eqb-true _ _ (every .1);
     }
 
 pub agreeing-agree : (t u : Task) → Agreeing t u → agree t u ≡ true
 unfolding agree
 agreeing-agree t u a =
-    rw (a .lines, a .reloads, a .ranges, eq-eqb (lineCount u) _ refl, eq-eqb (u .header .reload) _ refl, eq-eqb (u .header .scratch .first) _ refl, eq-eqb (u .header .scratch .count) _ refl)
+    rw (a .lines, a .reloads, a .ranges, a .switches, eq-eqb (lineCount u) _ refl, eq-eqb (u .header .reload) _ refl, eq-eqb (u .header .scratch .first) _ refl, eq-eqb (u .header .scratch .count) _ refl, eq-eqb (u .header .switch) _ refl)
 
 pub counts-fit : (n m : ℕ) → countsFit n m ≡ true → (n ≤ 64) × (m ≤ 32)
 unfolding countsFit

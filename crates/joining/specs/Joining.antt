@@ -8,7 +8,7 @@ use lib.ListN.{length}
 use Rattle.model.specs.Task.{Task, blockCount}
 use Rattle.model.specs.declared.Header.{Header}
 
--- the smaller limit, the smaller second limit (document 02, item 9) and the first's id; S, R and the scratch range are those of both
+-- the smaller limit, the smaller second limit (document 02, item 9) and the first's id; S, R, the scratch range and G are those of both
 unfoldable pub joinedHeader : Header → Header → Header
 joinedHeader a b =
     record {
@@ -18,6 +18,7 @@ joinedHeader a b =
       id = a .id;
       scratch = a .scratch;
       «second_limit» = min (a .«second_limit») (b .«second_limit»);
+      switch = a .switch;
     }
 
 -- basic blocks of the first, then of the second, and preempters (the document's interrupters) likewise
@@ -29,13 +30,13 @@ joined t u =
       preempters = t .preempters ++ u .preempters;
     }
 
--- S, R and the scratch range are equal; of the range both numbers are compared, also where it is empty
+-- S, R, the scratch range and G (document 02, item 14) are equal; of the range both numbers are compared, also where it is empty
 unfoldable pub agree : Task → Task → Bool
 agree t u =
     let a = t .header in
     let b = u .header in
     eqb (a .«line_count») (b .«line_count») && eqb (a .reload) (b .reload) && eqb (a .scratch .first) (b .scratch .first) &&
-    eqb (a .scratch .count) (b .scratch .count)
+    eqb (a .scratch .count) (b .scratch .count) && eqb (a .switch) (b .switch)
 
 -- so many basic blocks and preempters have room in a file
 unfoldable pub countsFit : ℕ → ℕ → Bool

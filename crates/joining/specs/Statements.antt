@@ -17,7 +17,7 @@ JoinedAccepted =
     (first second out : List ℕ) → joinVerdict first second out ≡ Accepted
     → IsAccepted (joinLeft first second out) × (taskOf (joinLeft first second out) ≡ joined (taskOf first) (taskOf second))
 
--- three tasks agree in S, R and range, and the totals fit
+-- three tasks agree in S, R, range and G, and the totals fit
 pub record ThreeAgree (t u v : Task) : Type 0 where
   pub first-two : agree t u ≡ true
   pub last-two : agree u v ≡ true

@@ -24,8 +24,8 @@ fn smaller(a: u32, b: u32) -> u32
     if a < b { a } else { b }
 }
 
-// Whether two accepted files have the same S, R and scratch range.
-fn same_cache(first: &[u8], second: &[u8]) -> bool
+// Whether two accepted files have the same S, R, scratch range and G.
+fn same_board(first: &[u8], second: &[u8]) -> bool
     requires { ⌜ IsAccepted (now first) × IsAccepted (now second) ⌝ }
     ensures { λ r. ⌜ r ≡ agree (taskOf (now (first .entry))) (taskOf (now (second .entry))) ⌝ }
 {
@@ -40,15 +40,18 @@ fn same_cache(first: &[u8], second: &[u8]) -> bool
     if a.scratch.first != b.scratch.first {
         return false;
     }
-    a.scratch.count == b.scratch.count
+    if a.scratch.count != b.scratch.count {
+        return false;
+    }
+    a.switch == b.switch
 }
 
-// Refuses accepted files of different caches.
+// Refuses accepted files of different caches or switches.
 fn check_agree(first: &[u8], second: &[u8]) -> Verdict
     requires { ⌜ IsAccepted (now first) × IsAccepted (now second) ⌝ }
     ensures { λ r. ⌜ r ≡ agreeRow (taskOf (now (first .entry))) (taskOf (now (second .entry))) ⌝ }
 {
-    if same_cache(first, second) {
+    if same_board(first, second) {
         Verdict::Accepted
     } else {
         Verdict::Refused(Refusal::Mismatch)

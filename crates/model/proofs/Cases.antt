@@ -15,7 +15,7 @@ use Rattle.model.specs.Sets.{Lines, listed, countBelow, table}
 use Rattle.model.specs.Task.{Task, blockCount}
 use Rattle.model.specs.Lines.{bypasses, lineOf, onLine, lastRead, firstRead, anyRead, readsOf, preempterReads, blockAt, stateAfter, nextRead, lookedAt, readsLookedAt, asNext, useful, accessed, evicted}
 use Rattle.model.specs.Lists.{steps, regions, every, total, lowest, lowestFrom, wellFormed, before, among, sameList, risingLists, allLists}
-use Rattle.model.specs.Regions.{unionAfter, timeAfter, loaded, regionLines, regionLength, armedAfter, regionFits, regionCost, lines, cost, fits, FirstBest, NoPlacementFits}
+use Rattle.model.specs.Regions.{unionAfter, timeAfter, loaded, regionLines, switchTicks, regionCost, regionLength, armedAfter, regionFits, lines, cost, fits, FirstBest, NoPlacementFits}
 use Rattle.model.specs.Charges.{touches, firstTouching, chargedTo, regionCharge, charge, charges}
 use Rattle.model.specs.Replay.{miss, fetch, misses, after, emptied, atEdge, walk, missesWith, missesAlone}
 use Rattle.model.specs.Answers.{accepted, pricing, number, place}
@@ -261,7 +261,7 @@ sound (replayed t ps a b) h =
 sound (charged t ps cs) h = same-list (charges t ps) (cs ++ replicate (32 - length cs) 0) h
 
 all-pass : everyCase cases ≡ true
-unfolding everyCase test agreeBelow everyList onAll exactly some ahead sameNext sameMapping refusedBy listed useful stateAfter nextRead lastRead firstRead lookedAt readsLookedAt readsOf bypasses lineOf onLine accessed anyRead blockAt evicted preempterReads loaded unionAfter regionLines countBelow regionLength timeAfter armedAfter regionFits regionCost every total lowest regions steps before among sameList risingLists miss fetch misses after emptied atEdge walk missesWith missesAlone table lowestFrom touches firstTouching chargedTo regionCharge charge charges
+unfolding everyCase test agreeBelow everyList onAll exactly some ahead sameNext sameMapping refusedBy listed useful stateAfter nextRead lastRead firstRead lookedAt readsLookedAt readsOf bypasses lineOf onLine accessed anyRead blockAt evicted preempterReads loaded unionAfter regionLines countBelow switchTicks regionCost regionLength timeAfter armedAfter regionFits every total lowest regions steps before among sameList risingLists miss fetch misses after emptied atEdge walk missesWith missesAlone table lowestFrom touches firstTouching chargedTo regionCharge charge charges
 all-pass = refl
 
 held : (cs : List Case) → everyCase cs ≡ true → (c : Case) → List·Memᴰ c cs → CaseHolds c

@@ -2,22 +2,22 @@
 -- Assumes nothing.
 use Prim.Native.Nat.{ℕ, zero, suc, _+_, _-_, _*_, _≤_, _<_, min}
 use mathlib.Core.Path.{_≡_, refl, sym, ap, _∙_}
-use mathlib.Core.Bool.{Bool, true, false, not, _&&_, _||_, and-eq-true-iff, and-true, and-false, or-true, false≢true}
+use mathlib.Core.Bool.{Bool, true, false, cond, not, _&&_, _||_, and-eq-true-iff, and-true, and-false, or-true, false≢true}
 use mathlib.Core.List.{List, [], _∷_}
-use native.Mathlib.Nat.{le-refl, le-trans, add-zero, add-suc, mul-zero, mul-add, mul-le-mul}
+use native.Mathlib.Nat.{le-refl, le-trans, add-zero, add-suc, mul-zero, mul-suc, mul-add, mul-le-mul}
 use native.Mathlib.Decide.{decLe}
 use native.Mathlib.Omega.{arith}
-use borrow.Author.Tests.{leb-true, le-leb, lt-leb}
-use lib.Dec.{leb}
+use borrow.Author.Tests.{leb-true, le-leb, lt-leb, ltb-true, ne-eqb}
+use lib.Dec.{eqb, leb, ltb}
 use lib.ListN.{length}
 use Rattle.model.specs.Sets.{Lines, bit}
 use Rattle.model.specs.Task.{Task, blockCount, secondLimit}
-use Rattle.model.specs.Lists.{Region, steps, regions, total, rightPoint, wellFormed, wrongPoint}
+use Rattle.model.specs.Lists.{steps, regions, every, total, rightPoint, wellFormed, wrongPoint}
 use Rattle.model.specs.Lines.{useful, evicted, blockAt}
-use Rattle.model.specs.Regions.{unionAfter, timeAfter, loaded, regionLines, newLines, regionLength, armedAfter, regionFits, regionCost}
+use Rattle.model.specs.Regions.{unionAfter, timeAfter, loaded, regionLines, newLines, switchTicks, regionCost, regionLength, armedAfter, regionFits}
 use Rattle.model.specs.Regions.{lines, fits, regionAbove}
 use Rattle.model.specs.Answers.{refusedAt, pricing}
-use Rattle.model.specs.Laws.{NoneArmed, OneArmed, AllArmed, CostOfLines}
+use Rattle.model.specs.Laws.{NoneArmed, OneArmed, AllArmed, CostOfLines, NoSwitch}
 use Rattle.model.specs.declared.Place.{Place}
 use Rattle.model.specs.declared.Place.the-variants.{Nowhere, At}
 use Rattle.model.specs.declared.Refusal.the-variants.{Argument, AboveLimit}
@@ -25,22 +25,48 @@ use Rattle.model.specs.declared.Verdict.the-variants.{Accepted}
 use Rattle.model.proofs.Digits.{count-le, count-within, count-none, count-sum}
 use Rattle.model.proofs.Lists.{lowest-none, none-lowest}
 
-scaled : (t : Task) (rs : List Region) → total (regionCost t) rs ≡ t .header .reload * total (regionLines t) rs
-unfolding total regionCost
-scaled t [] = sym (mul-zero (t .header .reload))
-scaled t (r ∷ rs) =
-    ap (λ (n : ℕ). t .header .reload * regionLines t (r .from) (r .to) + n) (scaled t rs) ∙
-    sym (mul-add (t .header .reload) (regionLines t (r .from) (r .to)) (total (regionLines t) rs))
+-- a point is not edge 0
+at-point : (t : Task) (p : ℕ) → 0 < p → switchTicks t p ≡ t .header .switch
+unfolding switchTicks
+at-point t p h = rw (ne-eqb p 0 (λ e. omega arith))
+
+-- the cost of the regions from edge a on
+cost-from : (t : Task) (n a : ℕ) (ps : List ℕ) → every (rightPoint n) (steps a ps) ≡ true
+    → total (regionCost t) (regions n a ps) ≡ t .header .reload * total (regionLines t) (regions n a ps) + (switchTicks t a + t .header .switch * length ps)
+unfolding every steps total regions regionCost
+cost-from t n a [] h = rw (add-zero, add-zero, mul-zero) (omega arith)
+cost-from t n a (p ∷ ps) h =
+    let both = and-eq-true-iff (rightPoint n a p) _ .0 h in
+    let above = ltb-true a p (and-eq-true-iff (ltb a p) (ltb p n) .0 (both .0) .0) in
+    omega (
+      arith,
+      cost-from t n p ps (both .1),
+      at-point t p (omega arith),
+      mul-add (t .header .reload) (regionLines t a p) (total (regionLines t) (regions n p ps)),
+      mul-suc (t .header .switch) (length ps),
+    )
 
 pub cost-of-lines : CostOfLines
-cost-of-lines t ps = scaled t (regions (blockCount t) 0 ps)
+unfolding switchTicks
+cost-of-lines t ps h = omega (arith, cost-from t (blockCount t) 0 ps h)
+
+pub no-switch : NoSwitch
+unfolding regionLength regionCost switchTicks
+no-switch t e a b = go (eqb a 0)
+  where
+    go : (z : Bool)
+        → (timeAfter t a (b - a) + (t .header .reload * regionLines t a b + cond z 0 (t .header .switch)) ≡ timeAfter t a (b - a) + t .header .reload * regionLines t a b) ×
+        (t .header .reload * regionLines t a b + cond z 0 (t .header .switch) ≡ t .header .reload * regionLines t a b)
+    go true = (omega arith, omega arith)
+    go false = (omega arith, omega arith)
 
 -- a region loads at most all lines
 pub lines-region : (t : Task) (a b : ℕ) → regionLines t a b ≤ 512
 unfolding regionLines
 lines-region t a b = count-le 512 (loaded t a b)
 
-lines-from : (t : Task) (n a : ℕ) (ps : List ℕ) → total (regionLines t) (regions n a ps) ≤ (length ps + 1) * 512
+-- the lines of the regions from edge a on
+pub lines-from : (t : Task) (n a : ℕ) (ps : List ℕ) → total (regionLines t) (regions n a ps) ≤ (length ps + 1) * 512
 unfolding total regions
 lines-from t n a [] = omega (arith, lines-region t a n)
 lines-from t n a (p ∷ ps) = omega (arith, lines-region t a p, lines-from t n p ps)
@@ -103,7 +129,7 @@ module _ (t : Task) (a b c : ℕ) (h : b ≤ c) where
       rw (both .0, more, union-grows _ a (b - a) (c - a - (b - a)) d (both .1))
 
   length-grows : regionLength t a b ≤ regionLength t a c
-  unfolding regionLength regionLines
+  unfolding regionLength regionCost regionLines
   length-grows =
       let time = rw (← more) at (time-grows t a (b - a) (c - a - (b - a))) in
       omega (arith, time, mul-le-mul (le-refl (t .header .reload)) (count-within 512 loaded-grows))

@@ -7,7 +7,7 @@ use mathlib.Core.Bool.{Bool, _||_}
 use mathlib.Core.List.{List, [], _∷_}
 use Rattle.model.specs.Task.{Block, Preempter, Task, blockCount, withPreempters}
 use Rattle.model.specs.Lines.{bypasses, lineOf, onLine, blockAt, stateAfter, nextRead, readsLookedAt, useful, accessed, evicted}
-use Rattle.model.specs.Regions.{timeAfter, armedAfter, loaded, regionLines, regionLength, regionFits, regionCost}
+use Rattle.model.specs.Regions.{timeAfter, armedAfter, loaded, regionLines, switchTicks, regionCost, regionLength, regionFits}
 use Rattle.model.specs.Replay.{Cache, emptyCache, miss, fetch, misses, after, atEdge, walk, missesWith, missesAlone}
 
 -- all that answers are made of is the same of two tasks
@@ -68,17 +68,17 @@ module _ (t : Task) (ps : List Preempter) (same : (c : ℕ) → evicted t c ≡ 
   unfolding regionLines
   lines-same = fun-ext (λ a. fun-ext (λ b. rw loaded-same))
 
+  cost-same : regionCost t ≡ regionCost (withPreempters t ps)
+  unfolding regionCost switchTicks
+  cost-same = fun-ext (λ a. fun-ext (λ b. rw lines-same))
+
   length-same : regionLength t ≡ regionLength (withPreempters t ps)
   unfolding regionLength
-  length-same = fun-ext (λ a. fun-ext (λ b. rw (time-same, lines-same)))
+  length-same = fun-ext (λ a. fun-ext (λ b. rw (time-same, cost-same)))
 
   fits-same : regionFits t ≡ regionFits (withPreempters t ps)
   unfolding regionFits
   fits-same = fun-ext (λ a. fun-ext (λ b. rw (length-same, armed-same)))
-
-  cost-same : regionCost t ≡ regionCost (withPreempters t ps)
-  unfolding regionCost
-  cost-same = fun-ext (λ a. fun-ext (λ b. rw lines-same))
 
   -- and so does a replay, at its points
 

@@ -1,5 +1,5 @@
 -- Document 01's cases marked P as document 02 has changed them, two more of its rules on small tasks, document 02's first five items and
--- its items 9 and 10, and document 004's appendix A. A case is a claim on a task; a claim about lists is one about every list. Assumes nothing.
+-- its items 9, 10 and 14, and document 004's appendix A. A case is a claim on a task; a claim about lists is one about every list. Assumes nothing.
 use Prim.Native.Nat.{ℕ, _-_, _<_}
 use mathlib.Core.Path.{_≡_}
 use mathlib.Core.Bool.{true, false, _&&_}
@@ -72,10 +72,11 @@ block time reads = record { time = time; armed = false; reads = reads }
 abbrev pub preempter : List ℕ → Preempter
 preempter reads = record { id = 0; reads = reads }
 
--- a header with S lines, the limit Q, R ticks for a reload, the numbers below count in its scratch range, and the limit Q2; its id is File Seven's
-abbrev pub header : ℕ → ℕ → ℕ → ℕ → ℕ → Header
-header s q r count q2 =
-    record { «line_count» = s; limit = q; reload = r; id = 7; scratch = record { first = 0; count = count }; «second_limit» = q2 }
+-- a header with S lines, the limit Q, R ticks for a reload, the numbers below count in its scratch range, the limit Q2, and G ticks for a switch; its
+-- id is File Seven's
+abbrev pub header : ℕ → ℕ → ℕ → ℕ → ℕ → ℕ → Header
+header s q r count q2 g =
+    record { «line_count» = s; limit = q; reload = r; id = 7; scratch = record { first = 0; count = count }; «second_limit» = q2; switch = g }
 
 -- the tasks of File Seven's blocks, with this header and the sampler armed in these blocks
 abbrev pub seven : Header → List ℕ → Task
@@ -90,15 +91,19 @@ seven h armed =
 
 -- File Seven, with S lines, the limit Q, and the numbers below count in its scratch range
 abbrev pub scratchSeven : ℕ → ℕ → ℕ → Task
-scratchSeven s q count = seven (header s q 10 count 0) []
+scratchSeven s q count = seven (header s q 10 count 0 0) []
 
 -- File Seven at Q 60, with the limit Q2 and the sampler armed in these blocks
 abbrev pub armedSeven : ℕ → List ℕ → Task
-armedSeven q2 armed = seven (header 4 60 10 0 q2) armed
+armedSeven q2 armed = seven (header 4 60 10 0 q2 0) armed
 
 -- File Seven as document 01 has it
 abbrev pub fileSeven : ℕ → ℕ → Task
 fileSeven s q = scratchSeven s q 0
+
+-- File Seven with the limit Q and G ticks for a switch
+abbrev pub switchSeven : ℕ → ℕ → Task
+switchSeven q g = seven (header 4 q 10 0 0 g) []
 
 -- File Seven at Q 60, with preempters that read these numbers
 abbrev pub sevenWith : List (List ℕ) → Task
@@ -106,13 +111,13 @@ sevenWith reads = withPreempters (fileSeven 4 60) (map preempter reads)
 
 -- one basic block of 60 ticks
 abbrev pub oneBlock : ℕ → Task
-oneBlock q = record { header = header 4 q 10 0 0; blocks = block 60 [] ∷ []; preempters = [] }
+oneBlock q = record { header = header 4 q 10 0 0 0; blocks = block 60 [] ∷ []; preempters = [] }
 
 -- a number that is read for the last time after the only point, on a line that the preempter evicts
 abbrev pub readTwice : Task
 readTwice =
     record {
-      header = header 4 60 10 0 0;
+      header = header 4 60 10 0 0 0;
       blocks = block 20 (0 ∷ []) ∷ block 20 (0 ∷ []) ∷ [];
       preempters = preempter (4 ∷ []) ∷ [];
     }
@@ -121,7 +126,7 @@ readTwice =
 abbrev pub sameRead : Task
 sameRead =
     record {
-      header = header 4 60 10 0 0;
+      header = header 4 60 10 0 0 0;
       blocks = block 20 (0 ∷ []) ∷ block 20 (0 ∷ []) ∷ block 20 (0 ∷ []) ∷ block 20 (0 ∷ []) ∷ [];
       preempters = preempter (4 ∷ []) ∷ [];
     }
@@ -130,7 +135,7 @@ sameRead =
 abbrev pub appendixA : Task
 appendixA =
     record {
-      header = header 16 0 390 0 0;
+      header = header 16 0 390 0 0 0;
       blocks =
           block 0 (1 ∷ 2 ∷ []) ∷ block 0 (3 ∷ 4 ∷ 8 ∷ []) ∷ block 0 (4 ∷ 5 ∷ 6 ∷ 8 ∷ []) ∷ block 0 (1 ∷ 2 ∷ 7 ∷ 8 ∷ []) ∷
           block 0 (1 ∷ 2 ∷ 7 ∷ 8 ∷ []) ∷ block 0 (1 ∷ 2 ∷ 7 ∷ 8 ∷ []) ∷ [];
@@ -212,6 +217,17 @@ cases =
     evictedAre (sevenWith ((4 ∷ []) ∷ (1 ∷ []) ∷ [])) (0 ∷ 1 ∷ []) ∷ evictedAre (sevenWith ((1 ∷ []) ∷ (4 ∷ []) ∷ [])) (0 ∷ 1 ∷ []) ∷
     charged (sevenWith ((4 ∷ []) ∷ (1 ∷ []) ∷ [])) (1 ∷ 2 ∷ 3 ∷ []) (2 ∷ 0 ∷ []) ∷
     charged (sevenWith ((1 ∷ []) ∷ (4 ∷ []) ∷ [])) (1 ∷ 2 ∷ 3 ∷ []) (0 ∷ 2 ∷ []) ∷
+    -- document 02, item 14: G 5. At Q 80 no point is needed; at Q 60 points 2 and 3 cost the same, and 2 is the first; at Q 55 3 does not fit
+    bestAre (switchSeven 80 5) 0 ([] ∷ []) ∷ lengthIs (switchSeven 80 5) 0 4 80 ∷
+    bestAre (switchSeven 60 5) 15 ((2 ∷ []) ∷ (3 ∷ []) ∷ []) ∷ firstIs (switchSeven 60 5) (2 ∷ []) ∷ priced (switchSeven 60 5) (2 ∷ []) 1 15 ∷
+    lengthIs (switchSeven 60 5) 0 2 40 ∷ lengthIs (switchSeven 60 5) 2 4 55 ∷ bestAre (switchSeven 55 5) 15 ((2 ∷ []) ∷ []) ∷
+    -- at Q 50 and Q 40 points 2, 3; at Q 35 only 1, 2, 3 fits, and at Q 34 nothing
+    bestAre (switchSeven 50 5) 30 ((2 ∷ 3 ∷ []) ∷ []) ∷ bestAre (switchSeven 40 5) 30 ((2 ∷ 3 ∷ []) ∷ []) ∷ priced (switchSeven 40 5) (2 ∷ 3 ∷ []) 2 30 ∷
+    lengthIs (switchSeven 40 5) 2 3 35 ∷ lengthIs (switchSeven 40 5) 3 4 35 ∷
+    fittingAre (switchSeven 35 5) ((1 ∷ 2 ∷ 3 ∷ []) ∷ []) ∷ priced (switchSeven 35 5) (1 ∷ 2 ∷ 3 ∷ []) 2 35 ∷ lengthIs (switchSeven 35 5) 0 1 20 ∷
+    lengthIs (switchSeven 35 5) 1 2 25 ∷ noneFits (switchSeven 34 5) 6 0 ∷
+    -- G 100: a plan at Q 80, without a point, and none below
+    bestAre (switchSeven 80 100) 0 ([] ∷ []) ∷ noneFits (switchSeven 79 100) 6 0 ∷
     -- 004, figure 9: the useful lines of task 1
     usefulAre appendixA 1 (1 ∷ 2 ∷ []) ∷ usefulAre appendixA 2 (1 ∷ 2 ∷ 4 ∷ 8 ∷ []) ∷ usefulAre appendixA 3 (1 ∷ 2 ∷ 8 ∷ []) ∷
     usefulAre appendixA 4 (1 ∷ 2 ∷ 7 ∷ 8 ∷ []) ∷ usefulAre appendixA 5 (1 ∷ 2 ∷ 7 ∷ 8 ∷ []) ∷

@@ -1,18 +1,18 @@
 -- What documents 01 and 02 say of the definitions and no contract states. Each is proved in proofs/ under its name in small letters.
 -- Assumes nothing.
-use Prim.Native.Nat.{ℕ, suc, _+_, _*_, _%_, _≤_, _<_, min}
+use Prim.Native.Nat.{ℕ, suc, _+_, _-_, _*_, _%_, _≤_, _<_, min}
 use mathlib.Core.Path.{_≡_}
 use mathlib.Core.Bool.{Bool, true, false, not, cond}
 use mathlib.Core.Logic.{_⊎_}
 use mathlib.Core.List.{List, [], _∷_, List·Memᴰ}
 use lib.Count.{ones}
 use lib.Dec.{eqb, leb}
-use lib.ListN.{getD, take, drop}
+use lib.ListN.{length, getD, take, drop}
 use Rattle.model.specs.Sets.{Lines, size, words, inWords}
 use Rattle.model.specs.Task.{Task, blockCount, preempterCount, lineCount, secondLimit}
 use Rattle.model.specs.Lines.{lineOf, lastRead, firstRead, lookedAt, anyRead, sameBlock, readsOf, preempterReads, blockAt, stateAfter, nextRead, readsLookedAt, useful, accessed, evicted}
 use Rattle.model.specs.Lists.{wellFormed, before, FirstOfLeast, among, allLists}
-use Rattle.model.specs.Regions.{regionLength, regionFits, lines, cost}
+use Rattle.model.specs.Regions.{timeAfter, regionLines, regionLength, regionFits, regionCost, lines, cost}
 use Rattle.model.specs.Charges.{charges, sum}
 use Rattle.model.specs.Replay.{Cache, miss, fetch, missesAlone, missesWith}
 use Rattle.model.specs.Planning.{Planned}
@@ -85,9 +85,16 @@ AllArmed =
     (t : Task) → ((i : ℕ) → i < blockCount t → blockAt t i .armed ≡ true) → (a b : ℕ) → a < b → b ≤ blockCount t
     → regionFits t a b ≡ leb (regionLength t a b) (min (t .header .limit) (secondLimit t))
 
--- a list's price is R times its lines
+-- a list's price is R times its lines, and G times its points (document 02, item 14)
 abbrev pub CostOfLines : Type 0
-CostOfLines = (t : Task) (ps : List ℕ) → cost t ps ≡ t .header .reload * lines t ps
+CostOfLines =
+    (t : Task) (ps : List ℕ) → wellFormed (blockCount t) ps ≡ true → cost t ps ≡ t .header .reload * lines t ps + t .header .switch * length ps
+
+-- with G 0 a region's length and its cost are what they were
+abbrev pub NoSwitch : Type 0
+NoSwitch =
+    (t : Task) → t .header .switch ≡ 0 → (a b : ℕ)
+    → (regionLength t a b ≡ timeAfter t a (b - a) + t .header .reload * regionLines t a b) × (regionCost t a b ≡ t .header .reload * regionLines t a b)
 
 -- the charges of a list add up to its lines, whether it is well formed and fits or not (document 02, item 10); a file has at most 32 preempters
 abbrev pub ChargesAddUp : Type 0

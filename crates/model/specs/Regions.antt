@@ -1,8 +1,8 @@
--- Regions of a task (document 01, "Stretches and price"; document 02, item 3). Assumes nothing.
+-- Regions of a task (document 01, "Stretches and price"; document 02, items 3, 9 and 14). Assumes nothing.
 use Prim.Native.Nat.{ℕ, zero, suc, _+_, _-_, _*_}
-use mathlib.Core.Bool.{Bool, false, not, _&&_, _||_}
+use mathlib.Core.Bool.{Bool, false, cond, not, _&&_, _||_}
 use mathlib.Core.List.{List}
-use lib.Dec.{leb}
+use lib.Dec.{eqb, leb}
 use Rattle.model.specs.Sets.{Lines, size}
 use Rattle.model.specs.Task.{Task, blockCount, secondLimit}
 use Rattle.model.specs.Lines.{useful, accessed, evicted, blockAt}
@@ -32,9 +32,17 @@ regionLines t a b = size (loaded t a b)
 unfoldable pub newLines : Task → ℕ → ℕ → ℕ
 newLines t a b = size (λ c. loaded t a b c && not (loaded t a (b - 1) c))
 
--- the length of a region: its times, and one reload for each loaded line
+-- the ticks of the switch at edge a: G at a point, and none at edge 0, where the task starts (document 02, item 14)
+unfoldable pub switchTicks : Task → ℕ → ℕ
+switchTicks t a = cond (eqb a 0) 0 (t .header .switch)
+
+-- what a region costs (document 01's price): R for each loaded line, and the switch that it starts with
+unfoldable pub regionCost : Task → ℕ → ℕ → ℕ
+regionCost t a b = t .header .reload * regionLines t a b + switchTicks t a
+
+-- the length of a region: its times, and what it costs
 unfoldable pub regionLength : Task → ℕ → ℕ → ℕ
-regionLength t a b = timeAfter t a (b - a) + t .header .reload * regionLines t a b
+regionLength t a b = timeAfter t a (b - a) + regionCost t a b
 
 -- the sampler is armed in one of the n basic blocks after edge a
 unfoldable pub armedAfter : Task → ℕ → ℕ → Bool
@@ -47,15 +55,11 @@ regionFits t a b =
     let within = leb (regionLength t a b) in
     within (t .header .limit) && (not (armedAfter t a (b - a)) || within (secondLimit t))
 
--- what a region costs (document 01's price): R for each loaded line
-unfoldable pub regionCost : Task → ℕ → ℕ → ℕ
-regionCost t a b = t .header .reload * regionLines t a b
-
 -- a list's lines: a line that two regions reload counts twice
 abbrev pub lines : Task → List ℕ → ℕ
 lines t ps = total (regionLines t) (regions (blockCount t) 0 ps)
 
--- a list's cost; it is R times its lines (CostOfLines)
+-- a list's cost; it is R times its lines and G times its points (CostOfLines)
 abbrev pub cost : Task → List ℕ → ℕ
 cost t ps = listCost (regionCost t) (blockCount t) ps
 

@@ -17,7 +17,7 @@ pub record Preempter : Type 0 where
   pub id : ℕ
   pub reads : List ℕ
 
--- of the header's numbers limit is Q, «second_limit» Q2 and reload R; the memory blocks that bypass the cache are so many numbers from the first on (document 02,
+-- of the header's numbers limit is Q, «second_limit» Q2, reload R and switch G; the memory blocks that bypass the cache are so many numbers from the first on (document 02,
 -- item 5)
 pub record Task : Type 0 where
   pub header : Header

@@ -72,7 +72,7 @@ pub struct Scratch {
     pub count: u32,
 }
 
-// The numbers of a task file's header but N and M, each as wide as it stands there: S, Q, R, the task's id, the scratch range and Q2.
+// The numbers of a task file's header but N and M, each as wide as it stands there: S, Q, R, the task's id, the scratch range, Q2 and G.
 pub struct Header {
     pub line_count: u16,
     pub limit: u32,
@@ -80,4 +80,5 @@ pub struct Header {
     pub id: u32,
     pub scratch: Scratch,
     pub second_limit: u32,
+    pub switch: u32,
 }

@@ -2,3 +2,4 @@ pub mod OneAnswer
 pub mod Edge
 pub mod Planned
 pub mod Charges
+pub mod Widths

@@ -2,6 +2,7 @@
 ghost use mathlib.Core.Bool.{cond};
 ghost use mathlib.Core.Path.{_≡_};
 ghost use Prim.Native.Nat.{min, _+_, _*_, _^_, _≤_, _<_};
+ghost use lib.Dec.{eqb};
 ghost use Rattle.model.specs.Task.{Task, blockCount};
 ghost use Rattle.model.specs.Regions.{regionLines};
 ghost use Rattle.taskfile.specs.File.{IsAccepted, taskOf};
@@ -137,7 +138,8 @@ impl CountedRegion {
         ensures { λ r. ⌜ Weighs header self r ⌝ }
     {
         let time = self.time;
-        let cost = header.reload as u64 * self.lines as u64;
+        let reloads = header.reload as u64 * self.lines as u64;
+        let cost = reloads + switch_at(header, self.from) as u64;
         let length = time + cost;
         let limit = self.limit as u64;
         Weighed {
@@ -146,6 +148,13 @@ impl CountedRegion {
             fits: length <= limit,
         }
     }
+}
+
+// The ticks of the switch at an edge: those of the header at a point, and none where the task starts.
+fn switch_at(header: Header, edge: usize) -> u32
+    ensures { λ r. ⌜ r ≡ cond (eqb edge 0) 0 (header .switch) ⌝ }
+{
+    if edge == 0 { 0 } else { header.switch }
 }
 
 // The limit that counts with one basic block more: the smaller of Q and Q2 where the sampler is armed in it.

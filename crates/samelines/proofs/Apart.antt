@@ -11,7 +11,7 @@ use Rattle.model.specs.Sets.{countBelow, listed, table}
 use Rattle.model.specs.Task.{Preempter, Task, withPreempters}
 use Rattle.model.specs.Lines.{bypasses, lineOf, onLine, lastRead, firstRead, anyRead, readsOf, preempterReads, blockAt, stateAfter, nextRead, useful, accessed, evicted}
 use Rattle.model.specs.Lists.{steps, regions, total, lowest, lowestFrom}
-use Rattle.model.specs.Regions.{unionAfter, timeAfter, loaded, regionLines, regionLength, armedAfter, regionFits}
+use Rattle.model.specs.Regions.{unionAfter, timeAfter, loaded, regionLines, switchTicks, regionCost, regionLength, armedAfter, regionFits}
 use Rattle.model.specs.Charges.{touches, firstTouching, chargedTo, regionCharge, charge, charges}
 use Rattle.model.specs.Answers.{pricing}
 use Rattle.model.specs.Cases.{sevenWith}
@@ -67,7 +67,7 @@ unfolding priceVerdict priceCharges
 charged m n h l e = rw (made m n h l .0, made m n h l .1, e) (refl, refl)
 
 fit : (pricing (seven 4 1) points ≡ Accepted) × (pricing (seven 1 4) points ≡ Accepted)
-unfolding steps regions lowest total loaded useful stateAfter nextRead lastRead firstRead readsOf onLine lineOf bypasses evicted anyRead preempterReads unionAfter accessed blockAt countBelow listed regionLines regionLength timeAfter armedAfter regionFits
+unfolding steps regions lowest total loaded useful stateAfter nextRead lastRead firstRead readsOf onLine lineOf bypasses evicted anyRead preempterReads unionAfter accessed blockAt countBelow listed regionLines switchTicks regionCost regionLength timeAfter armedAfter regionFits
 fit = (refl, refl)
 
 apart : (charge (seven 4 1) points 0 ≡ 2) × (charge (seven 1 4) points 0 ≡ 0)

@@ -65,6 +65,7 @@ headerOf file =
       id = field file 16 4;
       scratch = record { first = field file 20 4; count = field file 24 4 };
       «second_limit» = field file 28 4;
+      switch = field file 32 4;
     }
 
 -- and the task: the header's numbers, and the blocks after the header
@@ -87,6 +88,7 @@ headerNumbers n m h =
     (4, h .scratch .first) ∷
     (4, h .scratch .count) ∷
     (4, h .«second_limit») ∷
+    (4, h .switch) ∷
     []
 
 -- those of a task's header
@@ -142,7 +144,7 @@ countsInRange n m s = leb 1 n && leb n 64 && leb m 32 && leb 1 s && leb s 512
 unfoldable pub scratchInRange : Scratch → Bool
 scratchInRange s = leb (s .first + s .count) 4294967296
 
--- the ranges of a task's N, M, S and scratch range; Q, Q2, R and id are free
+-- the ranges of a task's N, M, S and scratch range; Q, Q2, R, G and id are free
 unfoldable pub headerInRange : Task → Bool
 headerInRange t = countsInRange (blockCount t) (length (t .preempters)) (lineCount t) && scratchInRange (t .header .scratch)
 

@@ -14,7 +14,7 @@ use model::Scratch;
 use model::Verdict;
 
 // Where the header's named bytes end.
-pub const HEADER_END: usize = 32;
+pub const HEADER_END: usize = 36;
 
 // The answer to any bytes.
 pub fn check(file: &[u8]) -> Verdict
@@ -133,6 +133,7 @@ fn read_header(file: &[u8]) -> Header
             count: block::u32_at(file, 24),
         },
         second_limit: block::u32_at(file, 28),
+        switch: block::u32_at(file, 32),
     }
 }
 

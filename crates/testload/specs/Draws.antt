@@ -45,10 +45,10 @@ afterBlock s = afterReads (next s)
 unfoldable pub drawnPreempter : ℕ → ℕ → Preempter
 drawnPreempter i s = record { id = i; reads = drawnReads s }
 
--- the header of a seed, S, Q and R: the id is the seed, the scratch range is empty, and Q2 is 0 (header bytes 20 to 31 are zero)
+-- the header of a seed, S, Q and R: the id is the seed, the scratch range is empty, and Q2 and G are 0 (header bytes 20 to 35 are zero)
 abbrev pub drawnHeader : ℕ → ℕ → ℕ → ℕ → Header
 drawnHeader seed s q r =
-    record { «line_count» = s; limit = q; reload = r; id = seed; scratch = record { first = 0; count = 0 }; «second_limit» = 0 }
+    record { «line_count» = s; limit = q; reload = r; id = seed; scratch = record { first = 0; count = 0 }; «second_limit» = 0; switch = 0 }
 
 -- the task of a seed, N, M, S, Q and R: the preempters go on with the state that the basic blocks left
 unfoldable pub drawnTask : ℕ → ℕ → ℕ → ℕ → ℕ → ℕ → Task

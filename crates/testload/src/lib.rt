@@ -129,6 +129,7 @@ fn put_task(
         id: seed,
         scratch: Scratch { first: 0, count: 0 },
         second_limit: 0,
+        switch: 0,
     };
     let state = put_blocks(out, blocks as usize, seed);
     put_preempters(out, blocks as usize, preempters as usize, state);

@@ -23,7 +23,7 @@ groupAt g addresses i = take g (drop (i * g) addresses)
 unfoldable pub tracedBlocks : Settings → List ℕ → List Block
 tracedBlocks s addresses = collect (λ i. tracedBlock s (groupAt (s .group) addresses i)) 0 (blocksFor (length addresses) (s .group))
 
--- header bytes 20 to 31 are zero
+-- header bytes 20 to 35 are zero
 abbrev pub tracedHeader : Settings → Header
 tracedHeader s =
     record {
@@ -33,6 +33,7 @@ tracedHeader s =
       id = s .id;
       scratch = record { first = 0; count = 0 };
       «second_limit» = 0;
+      switch = 0;
     }
 
 -- the task: no preempters

@@ -242,6 +242,7 @@ fn put_task(out: &mut [u8], addresses: &[u32], settings: Settings, blocks: usize
         id: settings.id,
         scratch: Scratch { first: 0, count: 0 },
         second_limit: 0,
+        switch: 0,
     };
     put_blocks(out, addresses, settings, blocks);
     writer::close_file(out, blocks as u16, 0, header);

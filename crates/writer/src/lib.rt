@@ -29,6 +29,7 @@ fn put_header(block: &mut [u8], blocks: u16, preempters: u16, header: Header)
         header.scratch.first,
         header.scratch.count,
         header.second_limit,
+        header.switch,
     ];
     block::put_u16(block, 0, 1);
     block::put_u16(block, 2, blocks);

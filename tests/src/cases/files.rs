@@ -51,6 +51,7 @@ impl Trial<'_> {
             Ok(model) => {
                 self.counts.scratch(model);
                 self.counts.arming(model);
+                self.counts.switch(model);
             }
             Err(_) => self.counts.too_far_a_range(&reference.file),
         }

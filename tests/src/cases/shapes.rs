@@ -5,7 +5,7 @@ use crate::inputs::tasks::tightest;
 use crate::reference::bytes::{field, seal, BLOCK};
 use crate::reference::calls::{Answer, Reference};
 use crate::reference::charges;
-use crate::reference::choice::TRY_ALL;
+use crate::reference::choice::{Least, TRY_ALL};
 use crate::reference::files::{file_refusal, Reads, Task};
 use crate::reference::joining::Pair;
 use crate::reference::lines;
@@ -13,6 +13,17 @@ use crate::reference::listing::SHORT;
 use crate::reference::plans::points_of;
 use crate::reference::regions::Model;
 use crate::reference::Refusal;
+
+/// Whether a list with points fits.
+fn some_points_fit(model: &Model) -> bool {
+    let n = model.n;
+    let mut ends = vec![false; n + 1];
+    ends[n] = true;
+    for a in (1..n).rev() {
+        ends[a] = (a + 1..=n).any(|b| ends[b] && model.within(a, b));
+    }
+    (1..n).any(|b| ends[b] && model.within(0, b))
+}
 
 impl Counts {
     pub fn refusal(&mut self, call: &str, answer: &Answer, n: usize) {
@@ -61,6 +72,27 @@ impl Counts {
         self.add_if(!tie && n > 1, "plan, only one list");
         self.add_if(many, "plan with N > 12");
         self.add_if(n == 64, "plan with N 64");
+        if model.task.switch > 0 {
+            self.plan_with_switch(model, least);
+        }
+    }
+
+    /// What G changes in a plan.
+    fn plan_with_switch(&mut self, model: &Model, least: &Least) {
+        let points = &least.points;
+        let without = model.without_switch();
+        let other = without.least_by_recursion().unwrap().points;
+        let too_long = model.first_above(&other).is_some();
+        let dearer = other != *points && !too_long;
+        let more_lines = model.lines_of(points) > model.lines_of(&other);
+        let pointless = points.is_empty() && !some_points_fit(model) && some_points_fit(&without);
+        self.add_if(pointless, "no points by G");
+        self.add_if(too_long, "other plan by fit");
+        self.add_if(dearer, "other plan by price");
+        self.add_if(dearer && more_lines, "more lines by G");
+        self.add_if(points.len() != least.last.len(), "tie of other counts");
+        let free = model.task.reload == 0 && !points.is_empty();
+        self.add_if(free, "plan with G, R 0");
     }
 
     pub fn price(&mut self, model: &Model, block: &[u8]) {
@@ -69,6 +101,9 @@ impl Counts {
         self.add_if(model.price_of(&points) >= 1 << 32, "priced above 2^32");
         self.add_if(model.lines_of(&points) > 255, "priced lines > 255");
         self.add_if(other_n, "other N in the block");
+        let switches = model.task.switch as u64 * points.len() as u64;
+        self.add_if(switches > 0, "priced with G");
+        self.add_if(switches >= 1 << 32, "switches above 2^32");
     }
 
     /// A list or a plan that is charged.
@@ -105,6 +140,7 @@ impl Counts {
             "charge above 255",
         );
         self.add_if(charges[31] > 0, "charge 31");
+        self.add_if(task.switch > 0 && whole > 0, "charged with G");
     }
 
     pub fn list(&mut self, reference: &Reference, start: u64, answer: &Answer) {
@@ -121,6 +157,8 @@ impl Counts {
             return;
         };
         let (there, number, end) = (field(found, 0, 8) == 1, field(found, 8, 8), 1 << (n - 1));
+        let switched = reference.model().is_ok_and(|m| m.task.switch > 0);
+        self.add_if(there && number > 0 && switched, "listed with G");
         self.add_if(there && number == start, "list at the start");
         self.add_if(there && number > start, "list further on");
         self.add_if(there && n == 1, "list of N 1");
@@ -144,6 +182,7 @@ impl Counts {
         self.add_if(model.length(a, b) >= 1 << 32, "length above 2^32");
         self.add_if(high, "lines above 255 used");
         self.add_if(model.loads_for_the_last_time(a, b), "last read loaded");
+        self.add_if(a > 0 && model.task.switch > 0, "region with G");
     }
 
     pub fn replay(&mut self, model: &Model, points: &[usize]) {
@@ -157,6 +196,8 @@ impl Counts {
         self.add_if(added > 0, "points add misses");
         self.add_if(!points.is_empty() && added == 0, "points add no miss");
         self.add_if(misses.alone < reads as u64, "a read hits alone");
+        let switched = !points.is_empty() && model.task.switch > 0;
+        self.add_if(switched, "replay with G");
     }
 
     /// A header that is refused and wouldn't be with the same bytes and no range.
@@ -207,17 +248,29 @@ impl Counts {
         self.add_if(some && q2 > q, "armed, Q2 above Q");
     }
 
-    /// A refused plan: a list may fit Q.
-    pub fn no_plan(&mut self, model: &Model) {
-        let fits_q = tightest(model) <= model.task.limit as u64;
-        self.add_if(fits_q, "6 by Q2 alone");
+    pub fn switch(&mut self, model: &Model) {
+        let task = &model.task;
+        let times: u64 = task.blocks.iter().map(|block| block.word as u64).sum();
+        self.add_if(task.switch == 0, "G 0");
+        self.add_if((1..=20).contains(&task.switch), "small G");
+        self.add_if(task.switch as u64 > times, "G above all times");
     }
 
-    /// A list that is refused at a stretch, which may be within Q.
+    /// A refused plan: a list may fit Q, or fit with G 0.
+    pub fn no_plan(&mut self, model: &Model) {
+        let fits_q = tightest(model) <= model.task.limit as u64;
+        let without = model.without_switch().least_by_recursion();
+        self.add_if(fits_q, "6 by Q2 alone");
+        self.add_if(without.is_some(), "6 by G alone");
+    }
+
+    /// A list that is refused at a stretch, which may be within Q, or fit with G 0.
     pub fn above(&mut self, model: &Model, block: &[u8], place: usize) {
         let (a, b) = model.stretches(&points_of(block))[place];
         let within_q = model.length(a, b) <= model.task.limit as u64;
+        let without = model.without_switch().within(a, b);
         self.add_if(within_q, "8 by Q2 alone");
+        self.add_if(without, "8 by G alone");
     }
 
     pub fn search(&mut self, task: &Task, line: usize, k: usize) {
@@ -250,6 +303,7 @@ impl Counts {
             let blocks = [pair.first, pair.second].map(|file| Task::read(file).blocks);
             let armed = blocks.iter().flatten().any(|block| block.armed);
             self.add_if(armed, "armed file joined");
+            self.add_if(field(pair.first, 32, 4) > 0, "joined with G");
             self.add_if(n == 64, "joined N 64");
             self.add_if(m == 32, "joined M 32");
             self.add_if(n == 64 && m == 32, "97 blocks joined");

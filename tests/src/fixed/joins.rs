@@ -1,6 +1,6 @@
 //! Two files joined.
 
-use super::{armed_seven, one_block, seven_with, Fixed};
+use super::{armed_seven, one_block, seven_with, switched_seven, Fixed};
 use crate::inputs::known::{largest, reads, seven};
 use crate::reference::bytes::{put, seal, BLOCK};
 use crate::reference::files::Task;
@@ -44,6 +44,8 @@ pub fn run(f: &mut Fixed) -> Result<(), String> {
         seven_with(0, 1),
         seven_with(0, 1 << 31),
         seven_with(4, 1),
+        switched_seven(60, 5),
+        switched_seven(60, 1 << 31),
     ];
     for task in &unlike {
         let apart = task.file();

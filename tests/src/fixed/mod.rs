@@ -107,6 +107,27 @@ impl Fixed<'_> {
         }
     }
 
+    fn length(&mut self, a: usize, b: usize, right: u64) -> Result<(), String> {
+        match self.check(&Call::Region(a, b))? {
+            Ok(answer) if field(&answer, 64, 8) == right => Ok(()),
+            _ => Err(format!(
+                "the reference doesn't give ({a}, {b}) the length {right}"
+            )),
+        }
+    }
+
+    /// The lengths of a list's stretches.
+    fn lengths(&mut self, points: &[usize], right: &[u64]) -> Result<(), String> {
+        let stretches = self.reference.model().unwrap().stretches(points);
+        if stretches.len() != right.len() {
+            return Err(format!("{points:?} has not {} stretches", right.len()));
+        }
+        for (&(a, b), &length) in stretches.iter().zip(right) {
+            self.length(a, b, length)?;
+        }
+        Ok(())
+    }
+
     /// The whole listing: each list's number and price.
     fn lists(&mut self, right: &[(u64, u64)]) -> Result<(), String> {
         let (mut start, mut listing) = (0, Vec::new());
@@ -181,6 +202,7 @@ fn one_block(time: u32, limit: u32) -> Task {
         id: 1,
         scratch: Scratch::NONE,
         second: 0,
+        switch: 0,
         blocks: vec![reads(time, &[0])],
         interrupters: Vec::new(),
     }
@@ -308,6 +330,7 @@ pub fn run(driver: &mut Driver) -> Result<(), String> {
 
     scratch(&mut f)?;
     armed(&mut f)?;
+    switched(&mut f)?;
     charged(&mut f)?;
     lists(&mut f)?;
 
@@ -488,6 +511,165 @@ fn armed(f: &mut Fixed) -> Result<(), String> {
         f.refused(&Call::Plan, 5, place)?;
     }
     Ok(())
+}
+
+/// File Seven with this Q and G.
+fn switched_seven(limit: u32, switch: u32) -> Task {
+    Task {
+        switch,
+        ..seven(limit)
+    }
+}
+
+/// A switch at each point.
+fn switched(f: &mut Fixed) -> Result<(), String> {
+    /// Points, lines, price, and the stretches' lengths.
+    type Row<'a> = (u32, u32, Option<(&'a [usize], u64, u64, &'a [u64])>);
+    let two = Some((&[2, 3][..], 2, 30, &[40, 35, 35][..]));
+    let none = Some((&[][..], 0, 0, &[80][..]));
+    let rows: [Row; 15] = [
+        (5, 80, none),
+        (5, 79, Some((&[1], 1, 15, &[20, 75]))),
+        (5, 60, Some((&[2], 1, 15, &[40, 55]))),
+        (5, 55, Some((&[2], 1, 15, &[40, 55]))),
+        (5, 54, two),
+        (5, 50, two),
+        (5, 40, two),
+        (5, 39, Some((&[1, 2, 3], 2, 35, &[20, 25, 35, 35]))),
+        (5, 35, Some((&[1, 2, 3], 2, 35, &[20, 25, 35, 35]))),
+        (5, 34, None),
+        (100, 80, none),
+        (100, 79, None),
+        (u32::MAX, 80, none),
+        (u32::MAX, 79, None),
+        (1, 60, Some((&[2], 1, 11, &[40, 51]))),
+    ];
+    for (g, q, right) in rows {
+        f.task(&format!("File Seven, Q {q}, G {g}"), &switched_seven(q, g));
+        let Some((points, lines, price, lengths)) = right else {
+            f.refused(&Call::Plan, 6, 0)?;
+            f.lists(&[])?;
+            continue;
+        };
+        f.planned(points, price)?;
+        let block = f.plans_something()?;
+        if (field(&block, 6, 2), field(&block, 8, 8)) != (lines, price) {
+            return Err(format!("the reference doesn't plan {lines} lines"));
+        }
+        f.anything(&Call::Price(&block))?;
+        f.anything(&Call::ChargedPlan)?;
+        f.lengths(points, lengths)?;
+    }
+
+    let fitting = [(2, 15), (3, 20), (4, 15), (5, 30), (6, 30), (7, 35)];
+    f.task("File Seven, Q 60, G 5, listed", &switched_seven(60, 5));
+    f.lists(&fitting)?;
+    f.task("File Seven, Q 35, G 5, listed", &switched_seven(35, 5));
+    f.lists(&fitting[5..])?;
+    f.task("File Seven, Q 80, G 100, listed", &switched_seven(80, 100));
+    f.lists(&[(0, 0)])?;
+
+    // A stretch that the switch makes too long by one tick.
+    f.task("File Seven, Q 60, G 10", &switched_seven(60, 10));
+    f.planned(&[2], 20)?;
+    f.refused(&Call::Price(&plan_block(4, &[1])), 8, 1)?;
+    f.refused(&Call::Price(&plan_block(4, &[])), 8, 0)?;
+    f.task("File Seven, Q 60, G 11", &switched_seven(60, 11));
+    f.refused(&Call::Price(&plan_block(4, &[2])), 8, 1)?;
+    f.planned(&[3], 21)?;
+
+    // Point 2 costs two reloads, and 1, 3 none: two lines against one point more, and 1, 3 comes first.
+    for (g, points, price) in [(1, &[1, 3][..], 2), (2, &[1, 3], 4), (3, &[2], 5)] {
+        let task = Task {
+            reload: 1,
+            switch: g,
+            blocks: vec![
+                reads(40, &[0]),
+                reads(10, &[1, 2]),
+                reads(10, &[1, 2]),
+                reads(40, &[3]),
+            ],
+            interrupters: vec![reads(0, &[1, 2])],
+            ..seven(55)
+        };
+        f.task(&format!("two lines or a point, G {g}"), &task);
+        f.planned(points, price)?;
+    }
+
+    // What isn't in ticks is what it was: lines, charges and misses.
+    f.task("File Seven, Q 60, G 5", &switched_seven(60, 5));
+    f.misses(&[], 4, 4)?;
+    f.misses(&[1, 2], 4, 5)?;
+    f.misses(&[1, 2, 3], 4, 6)?;
+    f.misses(&[3], 4, 5)?;
+    let mut right = vec![2, 35, 2];
+    right.resize(34, 0);
+    match f.check(&Call::Charged(&[1, 2, 3]))? {
+        Ok(answer) if answer == words(&right) => {}
+        _ => return Err("the reference doesn't charge 2 lines at 35".to_string()),
+    }
+
+    // Nothing is reloaded where 0 bypasses the cache, and a switch is paid for all the same.
+    let mut task = seven_with(0, 1);
+    task.switch = 5;
+    f.task("File Seven, 0 bypasses the cache, G 5", &task);
+    f.planned(&[2], 5)?;
+    f.lengths(&[2], &[40, 45])?;
+
+    // Q2 is compared with the switch too.
+    for (second, right) in [(35, Some((&[3][..], 15))), (34, None)] {
+        let mut task = armed_seven(second, &[4]);
+        task.switch = 5;
+        f.task(&format!("File Seven, 4 armed, Q2 {second}, G 5"), &task);
+        match right {
+            Some((points, price)) => f.planned(points, price)?,
+            None => f.refused(&Call::Plan, 6, 0)?,
+        }
+    }
+
+    widest_switches(f)?;
+    for (at, right) in [(32, true), (33, true), (34, true), (35, true), (36, false)] {
+        let mut file = seven(80).file();
+        file[at] = 255;
+        seal(&mut file[..BLOCK]);
+        f.file(&format!("header byte {at} is 255"), &file);
+        match right {
+            true => f.planned(&[], 0)?,
+            false => f.refused(&Call::Plan, 3, 0)?,
+        }
+    }
+    Ok(())
+}
+
+/// The most that lengths and prices come to.
+fn widest_switches(f: &mut Fixed) -> Result<(), String> {
+    let most = u32::MAX;
+    let numbers = |i: u32| -> Vec<u32> { (103 * i..103 * (i + 1)).map(|m| m % 512).collect() };
+    let block = |word: u32, i: u32| reads(word, &numbers(i % 5));
+    let mut task = Task {
+        limit: most,
+        reload: most,
+        switch: most,
+        blocks: (0..64).map(|i| block(most, i)).collect(),
+        interrupters: (0..5).map(|i| block(i, i)).collect(),
+        ..largest()
+    };
+    f.task("the largest times, R and G", &task);
+    let widest = 59 + 512 + 1;
+    f.length(5, 64, widest * most as u64)?;
+    f.length(0, 64, 64 * most as u64)?;
+    f.refused(&Call::Plan, 6, 0)?;
+
+    // Every list fits, and each of its points costs 2^32 - 1.
+    task.reload = 0;
+    task.blocks.iter_mut().for_each(|block| block.word = 0);
+    f.task("the largest G, no times and R 0", &task);
+    f.planned(&[], 0)?;
+    let all: Vec<usize> = (1..64).collect();
+    match f.check(&Call::Price(&plan_block(64, &all)))? {
+        Ok(block) if field(&block, 8, 8) == 63 * most as u64 => Ok(()),
+        _ => Err("the reference doesn't price 63 of the largest G".to_string()),
+    }
 }
 
 /// Reloads charged to interrupters: File Seven at Q 60 with interrupters that read these numbers, and the first charges of a list.

@@ -219,7 +219,8 @@ fn damage_header(rng: &mut Rng, header: &mut [u8]) -> String {
         }
         6 => {
             let at = rng.pick(&[
-                20, 21, 22, 23, 24, 25, 26, 27, 28, 29, 30, 31, 32, 32, 33, 503, 502,
+                20, 21, 22, 23, 24, 25, 26, 27, 28, 29, 30, 31, 32, 33, 34, 35, 36, 36, 37, 503,
+                502,
             ]);
             header[at] = other_byte(rng, header[at]);
             format!("header byte {at}")

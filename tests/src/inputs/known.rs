@@ -20,6 +20,7 @@ pub fn seven(limit: u32) -> Task {
         id: 7,
         scratch: Scratch::NONE,
         second: 0,
+        switch: 0,
         blocks: vec![
             reads(20, &[0, 1]),
             reads(20, &[2]),
@@ -50,6 +51,7 @@ pub fn largest() -> Task {
         id: 64,
         scratch: Scratch::NONE,
         second: 0,
+        switch: 0,
         blocks: (0..64).map(|i| block(100 + i)).collect(),
         interrupters: (0..32).map(&mut block).collect(),
     }

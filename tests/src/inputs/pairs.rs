@@ -60,6 +60,7 @@ fn parts(rng: &mut Rng, task: &Task, totals: [usize; 2], count: usize) -> Vec<Ta
     let others = shares(rng, interrupters.len(), count, 0, 32);
     let times: u64 = blocks.iter().map(|b| b.word as u64).sum();
     let limit = times / rng.pick(&[1, 2, 4, 8]) + task.reload as u64 * rng.below(9) as u64;
+    let limit = limit + task.switch as u64 * rng.below(2) as u64;
     let limit = limit.min(u32::MAX as u64) as u32;
     let mut tasks = Vec::new();
     for (n, m) in basic.into_iter().zip(others) {
@@ -90,10 +91,10 @@ fn shares(rng: &mut Rng, total: usize, count: usize, least: usize, most: usize) 
     shares
 }
 
-/// Another S, R or range in one of the tasks.
+/// Another S, R, range or G in one of the tasks.
 fn set_apart(rng: &mut Rng, tasks: &mut [Task]) {
     let bit = 1 << rng.below(32);
-    let kind = rng.below(6);
+    let kind = rng.below(7);
     if kind == 5 {
         tasks.iter_mut().for_each(|task| task.scratch.count = 0);
     }
@@ -105,6 +106,7 @@ fn set_apart(rng: &mut Rng, tasks: &mut [Task]) {
         1 => task.lines = random_lines(rng),
         2 => task.reload ^= bit,
         3 => task.scratch.count ^= bit,
+        6 => task.switch ^= bit,
         _ => task.scratch.first ^= bit,
     }
 }

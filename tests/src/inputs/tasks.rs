@@ -182,6 +182,11 @@ impl Pool {
             rng.pick(numbers)
         }
     }
+
+    /// The first number of one of two lines, which go by the phase.
+    fn read_in(&self, rng: &mut Rng, phase: usize) -> u32 {
+        self.lines[(2 * phase + rng.below(2)) % self.lines.len()][0]
+    }
 }
 
 fn random_count(rng: &mut Rng, style: usize) -> usize {
@@ -265,6 +270,12 @@ pub fn task_without_limit(rng: &mut Rng) -> Task {
         pool.steady = rng.pick(&[80, 90, 95]);
     }
     let scattered = !hard && rng.percent(4);
+    // Blocks that follow each other read the same few lines: a point among them is dear, and one behind them cheap.
+    let phase = if hard && rng.percent(50) {
+        rng.between(2, 4)
+    } else {
+        0
+    };
 
     let style = match (dense, hard) {
         (true, _) => 3,
@@ -278,7 +289,7 @@ pub fn task_without_limit(rng: &mut Rng) -> Task {
     };
     let base = rng.between(1, 30) as u32;
     let mut blocks = Vec::new();
-    for _ in 0..n {
+    for i in 0..n {
         let time = match times {
             0 => 0,
             1 => rng.pick(&[u32::MAX, u32::MAX - 1, 0x8000_0000, 0, 1]),
@@ -292,6 +303,8 @@ pub fn task_without_limit(rng: &mut Rng) -> Task {
             .map(|_| {
                 if scattered {
                     rng.word()
+                } else if phase > 0 {
+                    pool.read_in(rng, i / phase)
                 } else {
                     pool.read(rng)
                 }
@@ -348,10 +361,16 @@ pub fn task_without_limit(rng: &mut Rng) -> Task {
         2 => rng.pick(&[0x8000_0000, 0x4000_0000, 0x2000_0000, 0x1000_0000]),
         3..=4 => rng.between(1 << 24, 1 << 30) as u32,
         5 => any_word(rng),
+        _ if phase > 0 => rng.between(1, 2) as u32,
         6..=12 => base,
         _ => rng.between(1, 20) as u32,
     };
     let scratch = random_scratch(rng, &blocks, &interrupters);
+    let switch = match phase {
+        0 if dense => rng.below(20) as u32,
+        0 => random_switch(rng, &blocks, reload),
+        _ => reload * rng.below(6) as u32,
+    };
     Task {
         lines: s,
         limit: 0,
@@ -359,9 +378,29 @@ pub fn task_without_limit(rng: &mut Rng) -> Task {
         id: any_word(rng),
         scratch,
         second: 0,
+        switch,
         blocks,
         interrupters,
     }
+}
+
+/// G: 0, small, beside a few reloads or a block's time, a part of all times, or beside all of them, where a list with points is longer than
+/// the one without.
+fn random_switch(rng: &mut Rng, blocks: &[Reads], reload: u32) -> u32 {
+    let times: u64 = blocks.iter().map(|block| block.word as u64).sum();
+    let one = blocks[rng.below(blocks.len())].word as u64;
+    let reloads = reload as u64 * rng.pick(&[1, 1, 2, 3]);
+    let g = match rng.below(16) {
+        0..=4 => 0,
+        5..=8 => rng.between(1, 20) as u64,
+        9..=10 => beside(rng, reloads),
+        11 => reload as u64 / rng.pick(&[2, 3]),
+        12 => beside(rng, one),
+        13 => times / rng.pick(&[2, 4, 8]),
+        14 => beside(rng, times),
+        _ => any_word(rng) as u64,
+    };
+    g.min(u32::MAX as u64) as u32
 }
 
 /// The numbers from first on and before end, or up to the last number that a range can have.
@@ -415,7 +454,8 @@ fn random_scratch(rng: &mut Rng, blocks: &[Reads], interrupters: &[Reads]) -> Sc
 
 /// Q: at its ends, at a stretch's length and beside it, or near the least that lets a list fit.
 fn random_limit(rng: &mut Rng, model: &Model) -> u32 {
-    if model.task.reload >= 1 << 24 && rng.percent(40) {
+    let costly = model.task.reload.max(model.task.switch);
+    if costly >= 1 << 24 && rng.percent(40) {
         return u32::MAX - rng.below(2) as u32;
     }
     let q = match rng.below(20) {

@@ -167,8 +167,13 @@ impl Reference {
             Call::Region(a, b) => {
                 let model = self.model()?;
                 given(refuse(7, 0).filter(|_| !(a < b && b <= model.n)))?;
+                let length = if bug("a stretch asked for without G") {
+                    model.without_switch().length(a, b)
+                } else {
+                    model.length(a, b)
+                };
                 let mut bytes = set_bytes(&model.loaded(a, b));
-                bytes.extend(words(&[model.length(a, b)]));
+                bytes.extend(words(&[length]));
                 Ok(bytes)
             }
             Call::Charged(list) => self.charged(&points_in(list)),
@@ -289,16 +294,22 @@ impl Reference {
         if bug("a replay refused above Q") {
             given(model.first_above(&points).and_then(|i| refuse(8, i)))?;
         }
-        Ok(replay(&model.task, &points).bytes())
+        let mut misses = replay(&model.task, &points);
+        if bug("G added to the misses") {
+            misses.with_points += model.task.switch as u64 * points.len() as u64;
+        }
+        Ok(misses.bytes())
     }
 }
 
 /// The plan of a list that is right for a file.
 fn plan_of(model: &Model, points: &[usize]) -> Plan {
+    let (lines, price) = (model.lines_of(points), model.price_of(points));
+    let by_price = price.checked_div(model.task.reload as u64);
     Plan {
         n: model.n,
-        lines: model.lines_of(points),
-        price: model.price_of(points),
+        lines: lines.but("lines by the price", by_price.unwrap_or(lines)),
+        price,
         id: model.task.id,
         points: points.to_vec(),
     }

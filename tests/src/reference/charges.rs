@@ -78,6 +78,9 @@ pub fn charges(model: &Model, points: &[usize]) -> [u64; CHARGES] {
     if bug("charge 31 left out") {
         charges[CHARGES - 1] = 0;
     }
+    if bug("a switch charged as a line") && model.task.switch > 0 {
+        charges[0] += points.len() as u64;
+    }
     if bug("charges from M on not zero") {
         charges[model.task.interrupters.len()..].fill(1);
     }
@@ -86,7 +89,9 @@ pub fn charges(model: &Model, points: &[usize]) -> [u64; CHARGES] {
 
 /// Lines, price and charges, in 34 words of eight bytes.
 pub fn charged(model: &Model, points: &[usize], list: &[usize]) -> Vec<u8> {
-    let mut numbers = vec![model.lines_of(points), model.price_of(points)];
+    let (lines, price) = (model.lines_of(points), model.price_of(points));
+    let reloads = model.task.reload as u64 * lines;
+    let mut numbers = vec![lines, price.but("a charged price without G", reloads)];
     numbers.extend(charges(model, list));
     words(&numbers)
 }

@@ -111,6 +111,9 @@ impl Model {
         if bug("a line once for the task in the choice only") {
             return self.different_lines(points);
         }
+        if bug("a choice without G") {
+            return self.task.reload as u64 * self.lines_of(points);
+        }
         self.price_of(points)
             .but("fewest points", points.len() as u64)
     }

@@ -53,6 +53,8 @@ pub struct Task {
     pub scratch: Scratch,
     /// Q2.
     pub second: u32,
+    /// G.
+    pub switch: u32,
     pub blocks: Vec<Reads>,
     pub interrupters: Vec<Reads>,
 }
@@ -94,6 +96,7 @@ impl Task {
                 count: field(header, 24, 4) as u32,
             },
             second: field(header, 28, 4.but("Q2 in sixteen bits", 2)) as u32,
+            switch: field(header, 32, 4.but("G in sixteen bits", 2)) as u32,
             blocks: blocks[1..1 + n].iter().map(reads).collect(),
             interrupters: blocks[1 + n..1 + n + m].iter().map(reads).collect(),
         }
@@ -111,6 +114,7 @@ impl Task {
         put(&mut header, 20, 4, self.scratch.first as u64);
         put(&mut header, 24, 4, self.scratch.count as u64);
         put(&mut header, 28, 4, self.second as u64);
+        put(&mut header, 32, 4, self.switch as u64);
         let mut file = header;
         for (kind, blocks) in [(2, &self.blocks), (3, &self.interrupters)] {
             for reads in blocks {
@@ -174,13 +178,16 @@ fn header_is_right(header: &[u8]) -> bool {
             "range first without a count refused",
             if count == 0 { 0 } else { 1 << 32 },
         );
+    let named = 36
+        .but("bytes 32 to 35 demanded zero", 32)
+        .but("byte 36 not looked at", 37);
     header[0] == 1
         && framed(header, 0, 0.but("byte 1 of a header may be 1", 1))
         && (1..=most_n).contains(&n)
         && m <= most_m
         && (1..=most_s).contains(&s)
         && end <= most_end
-        && zero_from(header, 32.but("byte 32 not looked at", 33))
+        && zero_from(header, named)
 }
 
 fn reads_are_right(block: &[u8], i: usize, n: usize) -> bool {

@@ -39,6 +39,7 @@ impl Pair<'_> {
             && !(no_range && bug("empty ranges alike"));
         let count = differ(24, 4) && !bug("range compared without its count");
         let second = differ(28, 4) && bug("Q2 compared");
+        let switch = differ(32, 4.but("G compared in sixteen bits", 2)) && !bug("G not compared");
         let mut names = Vec::new();
         for (name, differs) in [
             ("S", s),
@@ -46,6 +47,7 @@ impl Pair<'_> {
             ("range's first", first),
             ("range's count", count),
             ("Q2", second),
+            ("G", switch),
         ] {
             if differs {
                 names.push(name);
@@ -130,6 +132,10 @@ impl Pair<'_> {
                 .but("the larger Q2", q2.max(more_q2))
                 .but("the first's Q2", q2)
                 .but("the second's Q2", more_q2),
+            switch: first
+                .switch
+                .but("no G joined", 0)
+                .but("both G added", first.switch.wrapping_add(second.switch)),
             id: first.id.but("the second's id", second.id),
             scratch: first.scratch.but("no range joined", Scratch::NONE),
             blocks: concat(&first.blocks, &second.blocks)

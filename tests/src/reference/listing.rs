@@ -28,7 +28,11 @@ impl Model {
     /// All fitting lists, in the order of their numbers.
     pub fn listing(&self) -> Vec<Listed> {
         let mut all = Vec::new();
-        self.list_behind(&mut Vec::new(), &mut all);
+        if bug("a listing without G") {
+            self.without_switch().list_behind(&mut Vec::new(), &mut all);
+        } else {
+            self.list_behind(&mut Vec::new(), &mut all);
+        }
         all.sort_by_key(|list| list.number);
         all
     }
@@ -60,10 +64,15 @@ impl Model {
             number: number_of(points),
             points: points.to_vec(),
             lines: self.lines_of(points),
-            price: price.but(
-                "a listed price without the last stretch",
-                price.wrapping_sub(self.price_between(last, self.n)),
-            ),
+            price: price
+                .but(
+                    "a listed price without the last stretch",
+                    price.wrapping_sub(self.price_between(last, self.n)),
+                )
+                .but(
+                    "a listed price without G",
+                    self.task.reload as u64 * self.lines_of(points),
+                ),
         }
     }
 }

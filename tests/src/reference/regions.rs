@@ -7,6 +7,7 @@ use super::lines::{
 use crate::bugs::{bug, But};
 
 /// All sets, sizes and lengths of one accepted file.
+#[derive(Clone)]
 pub struct Model {
     pub task: Task,
     pub n: usize,
@@ -61,8 +62,25 @@ impl Model {
         common(&common(&self.useful[a], &touched), &self.struck)
     }
 
+    /// The ticks of a stretch's reloads.
+    fn reloads(&self, a: usize, b: usize) -> u64 {
+        self.task.reload as u64 * self.sizes[a][b]
+    }
+
+    /// G for a stretch that starts at a point.
+    fn switch(&self, a: usize, b: usize) -> u64 {
+        let g = self.task.switch as u64;
+        let at = |switched: bool| if switched { g } else { 0 };
+        at(a > 0)
+            .but("G for the stretch from edge 0 too", g)
+            .but("G where a stretch ends at a point", at(b < self.n))
+            .but("G where a stretch reloads", at(self.sizes[a][b] > 0))
+            .but("G for each line", g * self.sizes[a][b])
+    }
+
     pub fn length(&self, a: usize, b: usize) -> u64 {
-        let length = self.times[a][b] + self.task.reload as u64 * self.sizes[a][b];
+        let switch = self.switch(a, b).but("G in the price alone", 0);
+        let length = self.times[a][b] + self.reloads(a, b) + switch;
         length.but("lengths in 32 bits", length as u32 as u64)
     }
 
@@ -98,13 +116,23 @@ impl Model {
             return true;
         }
         let (q, q2) = (self.task.limit as u64, self.task.second as u64);
-        let (length, time) = (self.length(a, b), self.times[a][b]);
+        let length = self.length(a, b);
+        let without_reloads = self.times[a][b] + self.switch(a, b);
+        let without_switch = self.times[a][b] + self.reloads(a, b);
         let armed = self.armed(a, b);
         let within = |length: u64| length <= q && (!armed || length <= q2);
         let last = a > 0 && b == self.n;
         within(length)
-            .but("Q without reloads", within(time))
-            .but("Q2 without reloads", length <= q && (!armed || time <= q2))
+            .but("Q without reloads", within(without_reloads))
+            .but(
+                "Q2 without reloads",
+                length <= q && (!armed || without_reloads <= q2),
+            )
+            .but("a fit without G", within(without_switch))
+            .but(
+                "Q2 without G",
+                length <= q && (!armed || without_switch <= q2),
+            )
             .but("below Q only", length < q && within(length))
             .but("below Q2 only", length <= q && (!armed || length < q2))
             .but("Q2 for every stretch", length <= q.min(q2))
@@ -148,12 +176,32 @@ impl Model {
         size(&common(&self.useful[a], &self.struck))
     }
 
+    /// R times the lines and G times the points.
     pub fn price_of(&self, points: &[usize]) -> u64 {
         let lines = self.lines_of(points);
-        let price = self.task.reload as u64 * lines;
+        let switches = self.switches_of(points, lines);
+        let price = self.task.reload as u64 * lines + switches;
         price
-            .but("price without R", lines)
+            .but("price without R", lines + switches)
             .but("price in 32 bits", price as u32 as u64)
+    }
+
+    fn switches_of(&self, points: &[usize], lines: u64) -> u64 {
+        let (g, count) = (self.task.switch as u64, points.len() as u64);
+        if bug("G where a stretch reloads") {
+            let stretches = self.stretches(points);
+            return stretches.iter().map(|&(a, b)| self.switch(a, b)).sum();
+        }
+        (g * count)
+            .but("G for the stretch from edge 0 too", g * (count + 1))
+            .but("G for each line", g * lines)
+            .but("G in the length alone", 0)
+            .but("G once for a list", g * count.min(1))
+            .but(
+                "G for the points but the first",
+                g * count.saturating_sub(1),
+            )
+            .but("G times points in 32 bits", (g * count) as u32 as u64)
     }
 
     /// Lowest stretch that doesn't fit.
@@ -168,7 +216,15 @@ impl Model {
 
     /// What a stretch adds to the price of a list.
     pub fn price_between(&self, a: usize, b: usize) -> u64 {
-        self.task.reload as u64 * self.sizes[a][b]
+        let switch = self.switch(a, b).but("G in the length alone", 0);
+        self.reloads(a, b) + switch
+    }
+
+    /// The same task with G 0.
+    pub fn without_switch(&self) -> Model {
+        let mut model = self.clone();
+        model.task.switch = 0;
+        model
     }
 
     /// Whether points add as many misses as their list has lines, whatever the limit.

@@ -71,6 +71,7 @@ impl Request {
         Task {
             scratch: Scratch::NONE,
             second: 0.but("Q as Q2 of a made file", self.q),
+            switch: 0.but("R as G of a made file", self.r),
             lines: self.s as usize,
             limit: self.q,
             reload: self.r,

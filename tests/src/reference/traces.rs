@@ -168,6 +168,7 @@ impl Settings {
         let task = Task {
             scratch: Scratch::NONE,
             second: 0.but("Q as Q2 of a trace", self.q),
+            switch: 0.but("R as G of a trace", self.r),
             lines: self.s as usize,
             limit: self.q.but("R for Q", self.r),
             reload: self.r,

@@ -5,16 +5,16 @@ use borrow.Author.Needs.{needs}
 use Rattle.joining.proofs.check_agree.Statement.{statement}
 use Rattle.joining.proofs.check_agree.Tie as tie
 
-same-cache-requires : tie.Need-same-cache-requires
-same-cache-requires c κs = search needs
+same-board-requires : tie.Need-same-board-requires
+same-board-requires c κs = search needs
 
 returns : tie.Need-returns
 unfolding agreeRow
-returns c = rw (← c .before .same-cache .ensures, c .if1 .taken)
+returns c = rw (← c .before .same-board .ensures, c .if1 .taken)
 
 returns-2 : tie.Need-returns-2
 unfolding agreeRow
-returns-2 c = rw (← c .before .same-cache .ensures, c .if1 .left)
+returns-2 c = rw (← c .before .same-board .ensures, c .if1 .left)
 
 pub check-agree-spec : {M : Type 1} → statement M
-check-agree-spec = tie.close (tie.spec same-cache-requires returns returns-2)
+check-agree-spec = tie.close (tie.spec same-board-requires returns returns-2)

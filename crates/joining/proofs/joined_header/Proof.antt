@@ -33,6 +33,7 @@ returns c =
       id = header .id;
       scratch = header .scratch;
       «second_limit» = q2;
+      switch = header .switch;
     }) (first .smaller .ensures) (c .smaller2 .ensures))
 
 pub joined-header-spec : {M : Type 1} → statement M

@@ -26,6 +26,9 @@ u32-at-requires-5 c κs = search needs
 u32-at-requires-6 : tie.Need-u32-at-requires-6
 u32-at-requires-6 c κs = search needs
 
+u32-at-requires-7 : tie.Need-u32-at-requires-7
+u32-at-requires-7 c κs = search needs
+
 returns : tie.Need-returns
 unfolding headerOf
 returns c = cc
@@ -41,4 +44,5 @@ read-header-spec =
     u32-at-requires-4
     u32-at-requires-5
     u32-at-requires-6
+    u32-at-requires-7
     returns)

@@ -1,10 +1,10 @@
--- `joining::same_cache` meets its contract: each test decides its part.
+-- `joining::same_board` meets its contract: each test decides its part.
 -- Assumes nothing.
 use borrow.Author.Needs.{needs}
 use borrow.Author.Tests.{eq-eqb, ne-eqb}
 use Rattle.joining.specs.Joining.{agree}
-use Rattle.joining.proofs.same_cache.Statement.{statement}
-use Rattle.joining.proofs.same_cache.Tie as tie
+use Rattle.joining.proofs.same_board.Statement.{statement}
+use Rattle.joining.proofs.same_board.Tie as tie
 
 header-requires : tie.Need-header-requires
 header-requires c κs = search needs
@@ -42,7 +42,7 @@ returns-3 c =
 returns-4 : tie.Need-returns-4
 unfolding agree
 returns-4 c =
-    let firsts = c .before .before in
+    let firsts = c .before .before .before in
     let reloads = firsts .before .before .before in
     let lines = reloads .before .before .before in
     let read = lines .before .before .before in
@@ -52,7 +52,25 @@ returns-4 c =
       eq-eqb _ _ (lines .if1 .left),
       eq-eqb _ _ (reloads .if2 .left),
       eq-eqb _ _ (firsts .if3 .left),
+      ne-eqb _ _ (c .if4 .taken),
     )
 
-pub same-cache-spec : {M : Type 1} → statement M
-same-cache-spec = tie.close (tie.spec header-requires header-requires-2 returns returns-2 returns-3 returns-4)
+returns-5 : tie.Need-returns-5
+unfolding agree
+returns-5 c =
+    let counts = c .before .before in
+    let firsts = counts .before .before .before in
+    let reloads = firsts .before .before .before in
+    let lines = reloads .before .before .before in
+    let read = lines .before .before .before in
+    rw (
+      ← read .before .header .ensures .0,
+      ← read .header2 .ensures .0,
+      eq-eqb _ _ (lines .if1 .left),
+      eq-eqb _ _ (reloads .if2 .left),
+      eq-eqb _ _ (firsts .if3 .left),
+      eq-eqb _ _ (counts .if4 .left),
+    )
+
+pub same-board-spec : {M : Type 1} → statement M
+same-board-spec = tie.close (tie.spec header-requires header-requires-2 returns returns-2 returns-3 returns-4 returns-5)

@@ -2,11 +2,11 @@
 // task: its execution time, period, deadline and longest region, decimal numbers with one space between.
 ghost use Prim.Native.Nat.{_≤_};
 ghost use lib.ListN.{length};
+use decimals::Decimal;
 use demand::Answer;
 use demand::Deadlines;
 use demand::TaskRecord;
 use demand::TaskSet;
-use desk::Decimal;
 use model::Verdict;
 
 // A number above every range, which stands for all that are too large.
@@ -47,7 +47,7 @@ fn read_line(line: &[u8], numbers: &mut [u32; 4]) -> bool {
             return false;
         }
         let end = find(line, at, b' ');
-        let Decimal::Number(number) = desk::capped_decimal(&line[at..end], TOO_LARGE) else {
+        let Decimal::Number(number) = decimals::capped_decimal(&line[at..end], TOO_LARGE) else {
             return false;
         };
         numbers[i] = four_bytes(number);

@@ -1,9 +1,10 @@
 // What the programs share: numbers and files that the arguments name, and the lines that are printed.
 ghost use mathlib.Core.Path.{_≡_};
-ghost use Prim.Native.Nat.{min, _+_, _≤_};
+ghost use Prim.Native.Nat.{_+_, _≤_};
 ghost use lib.ListN.{length, take};
 ghost use Rattle.io.specs.Counts.{Counts};
-ghost use Rattle.desk.specs.Decimals.{withDigit, decimalOf, cappedDecimal, AtMost};
+ghost use Rattle.decimals.specs.Decimals.{AtMost};
+use decimals::Decimal;
 use libc::STDERR_FILENO;
 use libc::STDIN_FILENO;
 use libc::STDOUT_FILENO;
@@ -11,77 +12,10 @@ use lineset::LineSet;
 use model::Refusal;
 use model::Verdict;
 
-// What bytes say in decimal digits.
-pub enum Decimal {
-    Number(u64),
-    Nothing,
-}
-
 // A file in a lent buffer: how many bytes it has, 0 where there is no such file.
 pub struct FileRead {
     pub found: bool,
     pub count: usize,
-}
-
-// A number with one digit more at its end.
-fn with_digit(n: u64, byte: u8) -> Decimal
-    ensures { λ r. ⌜ r ≡ withDigit n byte ⌝ }
-{
-    if byte < b'0' {
-        return Decimal::Nothing;
-    }
-    if b'9' < byte {
-        return Decimal::Nothing;
-    }
-    let digit = (byte - b'0') as u64;
-    if (0xffff_ffff_ffff_ffff - digit) / 10 < n {
-        return Decimal::Nothing;
-    }
-    Decimal::Number(n * 10 + digit)
-}
-
-// The number that bytes say: digits alone, and a number below 2^64.
-pub fn decimal_of(text: &[u8]) -> Decimal
-    ensures { λ r. ⌜ r ≡ decimalOf (now (text .entry)) ⌝ }
-{
-    if text.len() == 0 {
-        return Decimal::Nothing;
-    }
-    let mut n = 0;
-    let mut i = 0;
-    while i < text.len() {
-        let Decimal::Number(more) = with_digit(n, text[i]) else {
-            return Decimal::Nothing;
-        };
-        n = more;
-        i += 1;
-    }
-    Decimal::Number(n)
-}
-
-// The number that bytes say, or the bound where it is more: digits alone, however many.
-pub fn capped_decimal(text: &[u8], most: u32) -> Decimal
-    ensures { λ r. ⌜ r ≡ cappedDecimal most (now (text .entry)) ⌝ }
-{
-    if text.len() < 1 {
-        return Decimal::Nothing;
-    }
-    let mut n = 0;
-    let mut i = 0;
-    while i < text.len() {
-        let Decimal::Number(more) = with_digit(n, text[i]) else {
-            return Decimal::Nothing;
-        };
-        n = lesser(more, most as u64);
-        i += 1;
-    }
-    Decimal::Number(n)
-}
-
-fn lesser(a: u64, b: u64) -> u64
-    ensures { λ r. ⌜ r ≡ min a b ⌝ }
-{
-    if a < b { a } else { b }
 }
 
 // Argument i as a number, or the bound where it is more.
@@ -90,7 +24,7 @@ pub fn capped_argument(i: usize, most: u32) -> Decimal
 {
     let mut text = io::buffer();
     let n = os::arg(i, &mut text);
-    capped_decimal(&text[..n], most)
+    decimals::capped_decimal(&text[..n], most)
 }
 
 // Argument i as a number of at most so much; an argument that is missing or longer than 4,096 bytes says nothing.
@@ -99,7 +33,7 @@ pub fn argument(i: usize, most: u64) -> Decimal
 {
     let mut text = io::buffer();
     let n = os::arg(i, &mut text);
-    let Decimal::Number(number) = decimal_of(&text[..n]) else {
+    let Decimal::Number(number) = decimals::decimal_of(&text[..n]) else {
         return Decimal::Nothing;
     };
     if most < number {

@@ -4,7 +4,7 @@ ghost use mathlib.Core.Path.{_≡_};
 ghost use Rattle.model.specs.Task.{blockCount};
 ghost use Rattle.model.specs.Lists.{wrongPoint};
 ghost use Rattle.taskfile.specs.File.{IsAccepted, taskOf};
-use desk::Decimal;
+use decimals::Decimal;
 use model::Place;
 use model::Verdict;
 use pricing::ChargedPrice;

@@ -1,6 +1,6 @@
 // Replays the reads of the task file on standard input: how many of them miss alone, and how many with the points that the arguments give, or
 // the refusal.
-use desk::Decimal;
+use decimals::Decimal;
 use model::Verdict;
 
 // The line of both counts.

@@ -1,6 +1,6 @@
 -- `desk::capped_argument` meets its contract. Assumes nothing.
 use borrow.Author.Needs.{needs}
-use Rattle.desk.proofs.Decimals.{capped-most}
+use Rattle.decimals.proofs.Decimals.{capped-most}
 use Rattle.desk.proofs.capped_argument.Statement.{statement}
 use Rattle.desk.proofs.capped_argument.Tie as tie
 

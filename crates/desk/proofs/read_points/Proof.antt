@@ -2,7 +2,7 @@
 use Prim.Native.Nat.{_≤_, _-_}
 use mathlib.Core.Path.{subst}
 use native.Mathlib.Omega.{arith}
-use Rattle.desk.specs.Decimals.{AtMost}
+use Rattle.decimals.specs.Decimals.{AtMost}
 use borrow.Author.Needs.{needs}
 use Rattle.desk.proofs.read_points.Statement.{statement}
 use Rattle.desk.proofs.read_points.Tie as tie

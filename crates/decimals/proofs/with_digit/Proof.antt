@@ -1,13 +1,13 @@
--- `desk::with_digit` meets its contract: the number is too large exactly where it is above a tenth of what is left of the largest.
+-- `decimals::with_digit` meets its contract: the number is too large exactly where it is above a tenth of what is left of the largest.
 -- Assumes nothing.
 use Prim.Native.Nat.{_+_, _-_, _*_, _^_, _≤_, _<_}
 use mathlib.Core.Bool.{and-false}
 use native.Mathlib.Omega.{arith}
 use borrow.Author.Needs.{needs}
 use borrow.Author.Tests.{lt-leb, le-leb, lt-ltb, le-ltb}
-use Rattle.desk.specs.Decimals.{withDigit}
-use Rattle.desk.proofs.with_digit.Statement.{statement}
-use Rattle.desk.proofs.with_digit.Tie as tie
+use Rattle.decimals.specs.Decimals.{withDigit}
+use Rattle.decimals.proofs.with_digit.Statement.{statement}
+use Rattle.decimals.proofs.with_digit.Tie as tie
 
 returns : tie.Need-returns
 unfolding withDigit

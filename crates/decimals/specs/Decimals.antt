@@ -1,11 +1,11 @@
--- Numbers in decimal digits, as the programs take them for arguments. Assumes nothing.
-use Prim.Native.Nat.{ℕ, _+_, _-_, _*_, _^_, _≤_, min}
+-- Numbers in decimal digits. Assumes nothing.
+use Prim.Native.Nat.{ℕ, zero, suc, _+_, _-_, _*_, _/_, _%_, _^_, _≤_, min}
 use mathlib.Core.Bool.{Bool, true, cond, _&&_}
-use mathlib.Core.List.{List, [], _∷_}
+use mathlib.Core.List.{List, [], _∷_, _++_}
 use lib.Dec.{leb, ltb}
 use lib.ListN.{length}
-use Rattle.desk.specs.declared.Decimal.{Decimal}
-use Rattle.desk.specs.declared.Decimal.the-variants.{Number, Nothing}
+use Rattle.decimals.specs.declared.Decimal.{Decimal}
+use Rattle.decimals.specs.declared.Decimal.the-variants.{Number, Nothing}
 
 -- a byte from `0` to `9`
 abbrev pub isDigit : ℕ → Bool
@@ -40,3 +40,12 @@ cappedDecimal most text = cond (ltb 0 (length text) && allDigits text) (Number (
 abbrev pub AtMost : ℕ → Decimal → Type 0
 AtMost most (Number n) = n ≤ most
 AtMost most Nothing = Unit
+
+-- the digits of a number, with no zero in front; of a longer one the last k
+unfoldable pub digitsOf : ℕ → ℕ → List ℕ
+digitsOf zero n = []
+digitsOf (suc k) n = cond (ltb n 10) ((48 + n) ∷ []) (digitsOf k (n / 10) ++ ((48 + n % 10) ∷ []))
+
+-- a number of four bytes has at most ten
+abbrev pub spelled : ℕ → List ℕ
+spelled n = digitsOf 10 n

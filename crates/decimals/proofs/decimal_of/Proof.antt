@@ -1,4 +1,4 @@
--- `desk::decimal_of` meets its contract. The loop's invariant: the bytes say what the number so far and the bytes left say.
+-- `decimals::decimal_of` meets its contract. The loop's invariant: the bytes say what the number so far and the bytes left say.
 -- Assumes nothing.
 use Prim.Native.Nat.{_-_, _^_, _≤_, _<_}
 use mathlib.Core.Path.{_≡_, sym, _∙_}
@@ -6,10 +6,10 @@ use native.Mathlib.Omega.{arith}
 use borrow.Author.Needs.{needs}
 use borrow.Author.Tests.{le-ltb}
 use lib.ListN.{length, drop, drop-of-length-le}
-use Rattle.desk.specs.Decimals.{decimalOf}
-use Rattle.desk.proofs.Decimals.{followed, from-zero, none-left, next-byte}
-use Rattle.desk.proofs.decimal_of.Statement.{statement}
-use Rattle.desk.proofs.decimal_of.Tie as tie
+use Rattle.decimals.specs.Decimals.{decimalOf}
+use Rattle.decimals.proofs.Decimals.{followed, from-zero, none-left, next-byte}
+use Rattle.decimals.proofs.decimal_of.Statement.{statement}
+use Rattle.decimals.proofs.decimal_of.Tie as tie
 
 abbrev Inv-loop : tie.InvT-loop
 Inv-loop text n₀ i₀ n i = (i ≤ length text) × (n < 2 ^ 64) × (decimalOf text ≡ followed n (drop i text))

@@ -13,9 +13,9 @@ use borrow.Author.Tests.{lt-ltb, le-ltb, ltb-false, leb-true}
 use lib.Dec.{leb, ltb}
 use lib.ListN.{length, getD, drop}
 use lib.Seq.{drop-cons}
-use Rattle.desk.specs.Decimals.{isDigit, allDigits, value, numberIf, decimalOf, cappedDecimal, withDigit, AtMost}
-use Rattle.desk.specs.declared.Decimal.{Decimal}
-use Rattle.desk.specs.declared.Decimal.the-variants.{Number, Nothing}
+use Rattle.decimals.specs.Decimals.{isDigit, allDigits, value, numberIf, decimalOf, cappedDecimal, withDigit, AtMost}
+use Rattle.decimals.specs.declared.Decimal.{Decimal}
+use Rattle.decimals.specs.declared.Decimal.the-variants.{Number, Nothing}
 
 -- what a number and the digits after it say
 abbrev pub followed : ℕ → List ℕ → Decimal

@@ -1,4 +1,4 @@
--- `desk::capped_decimal` meets its contract. The loop's invariant: the bytes say what the number so far and the bytes left say, up to the bound.
+-- `decimals::capped_decimal` meets its contract. The loop's invariant: the bytes say what the number so far and the bytes left say, up to the bound.
 -- Assumes nothing.
 use Prim.Native.Nat.{ℕ, _+_, _-_, _≤_}
 use mathlib.Core.Path.{_≡_, sym, ap, _∙_}
@@ -6,10 +6,10 @@ use native.Mathlib.Omega.{arith}
 use borrow.Author.Needs.{needs}
 use borrow.Author.Tests.{le-ltb}
 use lib.ListN.{length, drop, drop-of-length-le}
-use Rattle.desk.specs.Decimals.{cappedDecimal}
-use Rattle.desk.proofs.Decimals.{capped, capped-zero, capped-none, capped-wrong, capped-next}
-use Rattle.desk.proofs.capped_decimal.Statement.{statement}
-use Rattle.desk.proofs.capped_decimal.Tie as tie
+use Rattle.decimals.specs.Decimals.{cappedDecimal}
+use Rattle.decimals.proofs.Decimals.{capped, capped-zero, capped-none, capped-wrong, capped-next}
+use Rattle.decimals.proofs.capped_decimal.Statement.{statement}
+use Rattle.decimals.proofs.capped_decimal.Tie as tie
 
 abbrev Inv-loop : tie.InvT-loop
 Inv-loop text most n₀ i₀ n i = (i ≤ length text) × (n ≤ most) × (cappedDecimal most text ≡ capped most n (drop i text))

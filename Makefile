@@ -4,6 +4,8 @@
 # make release      the library, its header and how to link them, in one archive
 # make test-c       unpack the release, call it from C, and hold the stack of each call to what LINKING.txt says
 # make test-desk    prove the programs at the desk and hold what they print to documents 01 and 02
+# make test-picture read the pictures of many files and hold them to what plan prints of each; SEED and COUNT may be given
+# make test-texts   hold the programs that read and write the text of a task to a reader and a writer of their own; SEED and COUNT may be given
 # make test-readme  run the examples of README.md and hold what they print to what it says
 # make opponent     compare the C calls with the independent implementation in tests/; SEED, COUNT and CASE may be given
 # make opponent-bugs  see that this comparison notices each wrong program that tests/ has
@@ -28,7 +30,7 @@ UNPACKED := target/test-c/$(NAME)
 OPPONENT := PLANNER_LIB_DIR=$(CURDIR)/target/staticlib CARGO_TARGET_DIR=$(CURDIR)/target/opponent \
 	cargo run --release --offline --locked --quiet --manifest-path tests/Cargo.toml --
 
-.PHONY: lib parts example release test-c test-desk test-readme opponent opponent-bugs bench compare clean
+.PHONY: lib parts example release test-c test-desk test-picture test-texts test-readme opponent opponent-bugs bench compare clean
 .DELETE_ON_ERROR:
 # Two calls of rt at once would overwrite each other's notes in target/.
 .NOTPARALLEL:
@@ -82,6 +84,12 @@ test-c: $(RELEASE).tar.gz
 
 test-desk: $(PROGRAMS)
 	tests/desk.sh $(DESK)
+
+test-picture: target/bin/plan target/bin/picture
+	python3 tests/picture.py $(SEED) $(COUNT)
+
+test-texts: $(PROGRAMS)
+	python3 tests/texts.py $(SEED) $(COUNT)
 
 test-readme: $(PROGRAMS) target/example/firmware
 	python3 tests/readme.py

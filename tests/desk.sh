@@ -298,6 +298,11 @@ region 0 1 length 20
 region 1 2 length 20
 region 2 3 length 30' plan
 
+# the picture of a plan, which tests/picture.py reads
+input=crates/picture/stdin
+writes docs/plan-seven.svg picture
+input=/dev/null
+
 # the misses of a list, within the limit or not
 prints $seven-60 'misses 4 with points 4' replay
 prints $seven-60 'misses 4 with points 5' replay 3
@@ -595,6 +600,26 @@ done
 usage join
 usage join $seven-60
 usage join $seven-60 $seven-60 $seven-60
+
+# the text of File Seven, and back; tests/texts.py has the rest
+seven_text='task 7
+lines 4
+limit 60
+sampler 0
+reload 10
+switch 0
+scratch 0 0
+block 20 0 1
+block 20 2
+block 20 0
+block 20 5 0
+preempter 1 4 1'
+prints $seven-60 "$seven_text" show
+prints $damaged/sum-block-3 'refused 2 at 3' show
+input=$parts/text
+printf '%s\n' "$seven_text" >"$input"
+writes $seven-60 assemble
+input=/dev/null
 
 # deadlines HORIZON: a line `e p d q` of standard input for each task
 set=$parts/set

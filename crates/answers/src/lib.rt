@@ -33,6 +33,7 @@ pub fn refusal_number(refusal: Refusal) -> u32
         Refusal::WrongTrace => 14,
         Refusal::LongTask => 15,
         Refusal::WrongTaskSet => 16,
+        Refusal::WrongText(_) => 17,
     }
 }
 
@@ -57,6 +58,7 @@ pub fn refusal_place(refusal: Refusal) -> usize
         Refusal::WrongTrace => 0,
         Refusal::LongTask => 0,
         Refusal::WrongTaskSet => 0,
+        Refusal::WrongText(line) => line,
     }
 }
 

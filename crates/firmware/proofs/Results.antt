@@ -10,7 +10,7 @@ use Rattle.model.specs.Regions.{regionFits, regionCost, NoPlacementFits}
 use Rattle.model.specs.Answers.{place}
 use Rattle.model.specs.Planning.{planFor}
 use Rattle.model.specs.declared.Refusal.{Refusal}
-use Rattle.model.specs.declared.Refusal.the-variants.{Length, Checksum, WrongHeader, BlockCount, WrongBlock, NoPlacement, Argument, AboveLimit, Output, OutOfRange, Mismatch, TooManyBlocks, WrongTraceLine, WrongTrace, LongTask, WrongTaskSet}
+use Rattle.model.specs.declared.Refusal.the-variants.{Length, Checksum, WrongHeader, BlockCount, WrongBlock, NoPlacement, Argument, AboveLimit, Output, OutOfRange, Mismatch, TooManyBlocks, WrongTraceLine, WrongTrace, LongTask, WrongTaskSet, WrongText}
 use Rattle.model.specs.declared.Verdict.{Verdict}
 use Rattle.model.specs.declared.Verdict.the-variants.{Accepted, Refused}
 use Rattle.model.proofs.Order.{one-first}
@@ -66,6 +66,7 @@ refused-returns (WrongTraceLine i) e = omega arith
 refused-returns WrongTrace e = omega arith
 refused-returns LongTask e = omega arith
 refused-returns WrongTaskSet e = omega arith
+refused-returns (WrongText i) e = omega arith
 
 is-stored : (file block left : List ℕ) → PlanCall file block 0 left → StoredBest (taskOf file) left
 is-stored file block left a = go (planChecks file block) refl

@@ -15,11 +15,11 @@ use Rattle.model.specs.declared.Input.the-variants.{First, Second}
 use Rattle.model.specs.declared.Place.{Place}
 use Rattle.model.specs.declared.Place.the-variants.{Nowhere, At}
 use Rattle.model.specs.declared.Refusal.{Refusal}
-use Rattle.model.specs.declared.Refusal.the-variants.{Length, Checksum, WrongHeader, BlockCount, WrongBlock, NoPlacement, Argument, AboveLimit, Output, OutOfRange, Mismatch, TooManyBlocks, WrongTraceLine, WrongTrace, LongTask, WrongTaskSet}
+use Rattle.model.specs.declared.Refusal.the-variants.{Length, Checksum, WrongHeader, BlockCount, WrongBlock, NoPlacement, Argument, AboveLimit, Output, OutOfRange, Mismatch, TooManyBlocks, WrongTraceLine, WrongTrace, LongTask, WrongTaskSet, WrongText}
 use Rattle.model.specs.declared.Verdict.{Verdict}
 use Rattle.model.specs.declared.Verdict.the-variants.{Accepted, Refused}
 
-number-most : (r : Refusal) → number r ≤ 16
+number-most : (r : Refusal) → number r ≤ 17
 number-most Length = omega arith
 number-most (Checksum k) = omega arith
 number-most WrongHeader = omega arith
@@ -36,8 +36,9 @@ number-most (WrongTraceLine i) = omega arith
 number-most WrongTrace = omega arith
 number-most LongTask = omega arith
 number-most WrongTaskSet = omega arith
+number-most (WrongText i) = omega arith
 
-pub verdict-number-most : (v : Verdict) → verdictNumber v ≤ 16
+pub verdict-number-most : (v : Verdict) → verdictNumber v ≤ 17
 verdict-number-most Accepted = omega arith
 verdict-number-most (Refused r) = number-most r
 

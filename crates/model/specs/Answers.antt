@@ -11,7 +11,7 @@ use Rattle.model.specs.declared.Input.the-variants.{First, Second}
 use Rattle.model.specs.declared.Place.{Place}
 use Rattle.model.specs.declared.Place.the-variants.{Nowhere, At}
 use Rattle.model.specs.declared.Refusal.{Refusal}
-use Rattle.model.specs.declared.Refusal.the-variants.{Length, Checksum, WrongHeader, BlockCount, WrongBlock, NoPlacement, Argument, AboveLimit, Output, OutOfRange, Mismatch, TooManyBlocks, WrongTraceLine, WrongTrace, LongTask, WrongTaskSet}
+use Rattle.model.specs.declared.Refusal.the-variants.{Length, Checksum, WrongHeader, BlockCount, WrongBlock, NoPlacement, Argument, AboveLimit, Output, OutOfRange, Mismatch, TooManyBlocks, WrongTraceLine, WrongTrace, LongTask, WrongTaskSet, WrongText}
 use Rattle.model.specs.declared.Verdict.{Verdict}
 use Rattle.model.specs.declared.Verdict.the-variants.{Accepted, Refused}
 
@@ -33,6 +33,7 @@ number (WrongTraceLine i) = 13
 number WrongTrace = 14
 number LongTask = 15
 number WrongTaskSet = 16
+number (WrongText i) = 17
 
 -- the place: the lowest such block, index, region or line, and 0 where the table says so
 abbrev pub place : Refusal → ℕ
@@ -52,6 +53,7 @@ place (WrongTraceLine i) = i
 place WrongTrace = 0
 place LongTask = 0
 place WrongTaskSet = 0
+place (WrongText i) = i
 
 -- the blocks of the largest file
 abbrev pub mostBlocks : ℕ

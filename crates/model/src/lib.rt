@@ -35,6 +35,7 @@ pub enum Refusal {
     WrongTraceLine(usize),
     WrongTrace,
     LongTask,
+    WrongText(usize),
     WrongTaskSet,
 }
 

@@ -1,0 +1,9 @@
+pub mod Spans
+pub mod Reading
+pub mod Drafting
+pub mod Lines
+pub mod Limits
+pub mod Closing
+pub mod Written
+pub mod Round
+pub mod Ways

@@ -1,0 +1,14 @@
+// Prints the text of the task file on standard input, or the refusal.
+use model::Verdict;
+
+fn main() {
+    let mut file = io::large_buffer();
+    let n = desk::read_input(&mut file);
+    let mut text = [0u8; 135168];
+    let shown = showing::show(&file[..n], &mut text);
+    let verdict = shown.verdict;
+    match verdict {
+        Verdict::Accepted => desk::print_page(&text, shown.length),
+        Verdict::Refused(refusal) => desk::print_refusal(refusal),
+    }
+}

@@ -1,0 +1,6 @@
+pub mod Laws
+pub mod Numbers
+pub mod Lines
+pub mod Entries
+pub mod Lengths
+pub mod Rows

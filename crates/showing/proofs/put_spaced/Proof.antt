@@ -1,0 +1,23 @@
+-- `showing::put_spaced` meets its contract: the space, and then the digits. Assumes nothing.
+use borrow.Author.Needs.{needs}
+use mathlib.Core.Path.{refl}
+use mathlib.Core.List.{[], _∷_}
+use Rattle.showing.specs.Text.{space}
+use Rattle.showing.proofs.Laws.{all-left, next, put-next, put-last}
+use Rattle.showing.proofs.put_spaced.Statement.{statement}
+use Rattle.showing.proofs.put_spaced.Tie as tie
+
+put-byte-requires : tie.Need-put-byte-requires
+put-byte-requires c κs = search needs
+
+put-number-requires : tie.Need-put-number-requires
+put-number-requires c κs = search needs
+
+same-length : tie.Need-same-length
+same-length c = search needs
+
+returns : tie.Need-returns
+returns c = put-last (put-next (next (space ∷ []) _ refl (all-left _ _ _)) (c .before .before .before .before .before .before .put-byte .ensures)) (c .before .before .put-number .ensures)
+
+pub put-spaced-spec : {M : Type 1} → statement M
+put-spaced-spec = tie.close (tie.spec put-byte-requires put-number-requires same-length returns)

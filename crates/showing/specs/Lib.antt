@@ -1,0 +1,4 @@
+pub mod Text
+pub mod Output
+pub mod Puts
+pub mod Calls

@@ -1,2 +1,2 @@
-pub mod Remainders
+pub mod Dividers
 pub mod Below

@@ -1,18 +1,26 @@
 // The geometry of an accepted file's cache, and the line of a memory block in it.
 ghost use mathlib.Core.Path.{_≡_};
-ghost use Prim.Native.Nat.{_%_, _<_};
+ghost use Prim.Native.Nat.{_%_, _≤_, _<_};
 ghost use Rattle.model.specs.Task.{Task};
 ghost use Rattle.model.specs.Lines.{lineOf, onLine};
 ghost use Rattle.model.specs.Lines as Lines;
 ghost use Rattle.taskfile.specs.File.{IsAccepted, taskOf};
-ghost use Rattle.cacheline.specs.Geometries.{Sound, GeometryOf, WithinCache};
+ghost use Rattle.cacheline.specs.Geometries.{Divides, Masks, PowerFor, Sound, GeometryOf, WithinCache};
 use model::Mapping;
 
-// The number of lines, and 2^32 divided by it, which spares a division for each read; and the memory blocks that bypass the cache, from the
-// first up to the end.
+// Three numbers that divide by a count: the quotient of any 32-bit number is (number * factor + addend) >> shift.
+pub struct Divider {
+    pub factor: u64,
+    pub addend: u64,
+    pub shift: u32,
+}
+
+// The number of lines, what divides by it, which spares a division for each read, and a mask in its place, 0 where there is none; and the memory blocks
+// that bypass the cache, from the first up to the end.
 pub struct Geometry {
     pub line_count: u32,
-    pub inverse: u64,
+    pub divider: Divider,
+    pub mask: u32,
     pub first: u64,
     pub end: u64,
 }
@@ -24,14 +32,79 @@ pub fn geometry_of(file: &[u8]) -> Geometry
 {
     let header = taskfile::header(file);
     let line_count = header.line_count as u32;
+    let lines = line_count as u64;
+    let power = power_for(lines);
     let first = header.scratch.first as u64;
     let end = first + header.scratch.count as u64;
     Geometry {
         line_count,
-        inverse: 4294967296 / line_count as u64,
+        divider: divider_by(lines, power),
+        mask: mask_by(line_count, power),
         first,
         end,
     }
+}
+
+// The divider by a count of lines: the power's quotient, or one more, whichever is near enough. Below the power's own quotient it needs the addend.
+fn divider_by(lines: u64, power: Power) -> Divider
+    requires { ⌜ (1 ≤ lines) × (lines ≤ 512) × PowerFor lines power ⌝ }
+    ensures { λ r. ⌜ Divides lines r ⌝ }
+{
+    let whole = power.value;
+    let shift = power.shift;
+    let factor = whole / lines;
+    let rest = whole - factor * lines;
+    if rest == 0 {
+        return Divider {
+            factor,
+            addend: 0,
+            shift,
+        };
+    }
+    if rest * 4294967296 <= whole {
+        return Divider {
+            factor,
+            addend: factor,
+            shift,
+        };
+    }
+    Divider {
+        factor: factor + 1,
+        addend: 0,
+        shift,
+    }
+}
+
+// The mask of a count of lines that is a power of two.
+fn mask_by(lines: u32, power: Power) -> u32
+    requires { ⌜ (1 ≤ lines) × PowerFor lines power ⌝ }
+    ensures { λ r. ⌜ Masks lines r ⌝ }
+{
+    if power.value == lines as u64 * 4294967296 {
+        return lines - 1;
+    }
+    0
+}
+
+// A power of two.
+struct Power {
+    value: u64,
+    shift: u32,
+}
+
+// The greatest power of two that is at most 2^32 times a count.
+fn power_for(lines: u64) -> Power
+    requires { ⌜ (1 ≤ lines) × (lines ≤ 512) ⌝ }
+    ensures { λ r. ⌜ PowerFor lines r ⌝ }
+{
+    let most = lines * 4294967296;
+    let mut value = 4294967296;
+    let mut shift = 32;
+    while value * 2 <= most {
+        value *= 2;
+        shift += 1;
+    }
+    Power { value, shift }
 }
 
 impl Geometry {
@@ -70,18 +143,17 @@ impl Geometry {
         }
     }
 
-    // A number's remainder by the line count, from a quotient that is right or one too small.
+    // A number's remainder by the line count.
     fn remainder(self, number: u32) -> usize
         requires { ⌜ Sound self ⌝ }
         ensures { λ r. ⌜ (r ≡ number % self .«line_count») × (r < 512) ⌝ }
     {
-        let lines = self.line_count as u64;
-        let quotient = (number as u64 * self.inverse) >> 32;
-        let rest = number as u64 - quotient * lines;
-        if rest < lines {
-            rest as usize
-        } else {
-            (rest - lines) as usize
+        if self.mask != 0 {
+            return (number & self.mask) as usize;
         }
+        let divider = self.divider;
+        let number = number as u64;
+        let quotient = (number * divider.factor + divider.addend) >> divider.shift;
+        (number - quotient * self.line_count as u64) as usize
     }
 }

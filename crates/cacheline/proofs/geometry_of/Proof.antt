@@ -1,7 +1,6 @@
--- `cacheline::geometry_of` meets its contract: the numbers are the header's.
--- Assumes nothing.
+-- `cacheline::geometry_of` meets its contract: the numbers are the header's. Assumes nothing.
 use Prim.Native.Nat.{_+_}
-use mathlib.Core.Path.{refl, ap}
+use mathlib.Core.Path.{ap}
 use borrow.Author.Needs.{needs}
 use Rattle.model.specs.declared.Header.{Header}
 use Rattle.cacheline.proofs.geometry_of.Statement.{statement}
@@ -13,6 +12,12 @@ header-requires c κs = search needs
 cast-line-count : tie.Need-cast-line-count
 cast-line-count c = search needs
 
+cast-lines : tie.Need-cast-lines
+cast-lines c = search needs
+
+power-for-requires : tie.Need-power-for-requires
+power-for-requires c κs = search needs
+
 cast-first : tie.Need-cast-first
 cast-first c = search needs
 
@@ -22,17 +27,17 @@ cast-end c = search needs
 add-end : tie.Need-add-end
 add-end c = search needs
 
-cast-t6 : tie.Need-cast-t6
-cast-t6 c = search needs
+divider-by-requires : tie.Need-divider-by-requires
+divider-by-requires c κs = search needs
 
-div-t7 : tie.Need-div-t7
-div-t7 c = search needs
+mask-by-requires : tie.Need-mask-by-requires
+mask-by-requires c κs = search needs
 
 returns : tie.Need-returns
 returns c =
-    let read = c .before .before .before .header .ensures in
+    let read = c .before .before .before .before .before .before .header .ensures in
     record {
-      sound = record { some = read .1; most = read .2; inverse = refl };
+      sound = record { some = read .1; most = read .2; divides = c .before .divider-by .ensures; masks = c .mask-by .ensures };
       count = ap (λ (h : Header). h .«line_count») (read .0);
       first = ap (λ (h : Header). h .scratch .first) (read .0);
       end = ap (λ (h : Header). h .scratch .first + h .scratch .count) (read .0);
@@ -44,9 +49,11 @@ geometry-of-spec =
     (tie.spec
     header-requires
     cast-line-count
+    cast-lines
+    power-for-requires
     cast-first
     cast-end
     add-end
-    cast-t6
-    div-t7
+    divider-by-requires
+    mask-by-requires
     returns)

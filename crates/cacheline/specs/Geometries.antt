@@ -34,12 +34,13 @@ pub record Sound (c : Geometry) : Type 0 where
   pub divides : Divides (c .«line_count») (c .divider)
   pub masks : Masks (c .«line_count») (c .mask)
 
--- the geometry of a task's cache
+-- the geometry of a task's cache; the scratch range ends at 2 ^ 32 or before
 pub record GeometryOf (t : Task) (c : Geometry) : Type 0 where
   pub sound : Sound c
   pub count : c .«line_count» ≡ lineCount t
   pub first : c .first ≡ t .header .scratch .first
-  pub end : c .end ≡ t .header .scratch .first + t .header .scratch .count
+  pub bypassing : c .bypassing ≡ t .header .scratch .count
+  pub ends : c .first + c .bypassing ≤ 2 ^ 32
 
 -- a line, if there is one, is below 512
 abbrev pub WithinCache : Mapping → Type 0

@@ -15,14 +15,14 @@ pub struct Divider {
     pub shift: u32,
 }
 
-// The number of lines, what divides by it, which spares a division for each read, and a mask in its place, 0 where there is none; and the memory blocks
-// that bypass the cache, from the first up to the end.
+// The number of lines, what divides by it, which spares a division for each read, and a mask in its place, 0 where there is none; and the memory blocks that bypass the cache, so many from
+// the first on.
 pub struct Geometry {
     pub line_count: u32,
     pub divider: Divider,
     pub mask: u32,
-    pub first: u64,
-    pub end: u64,
+    pub first: u32,
+    pub bypassing: u32,
 }
 
 // The geometry of a file's cache.
@@ -34,14 +34,12 @@ pub fn geometry_of(file: &[u8]) -> Geometry
     let line_count = header.line_count as u32;
     let lines = line_count as u64;
     let power = power_for(lines);
-    let first = header.scratch.first as u64;
-    let end = first + header.scratch.count as u64;
     Geometry {
         line_count,
         divider: divider_by(lines, power),
         mask: mask_by(line_count, power),
-        first,
-        end,
+        first: header.scratch.first,
+        bypassing: header.scratch.count,
     }
 }
 
@@ -131,16 +129,12 @@ impl Geometry {
         false
     }
 
-    // Whether a memory block is in the scratch range.
+    // Whether a memory block is in the scratch range: so far behind its first, modulo 2^32.
     fn bypasses(self, number: u32) -> bool
         ensures { λ r. ⌜ ((t : Task) → GeometryOf t self → r ≡ Lines.bypasses t number) ⌝ }
     {
-        let at = number as u64;
-        if at < self.end {
-            self.first <= at
-        } else {
-            false
-        }
+        let behind = (number as u64 + 4294967296 - self.first as u64) % 4294967296;
+        behind < self.bypassing as u64
     }
 
     // A number's remainder by the line count.

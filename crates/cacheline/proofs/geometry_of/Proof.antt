@@ -1,8 +1,8 @@
 -- `cacheline::geometry_of` meets its contract: the numbers are the header's. Assumes nothing.
-use Prim.Native.Nat.{_+_}
 use mathlib.Core.Path.{ap}
 use borrow.Author.Needs.{needs}
 use Rattle.model.specs.declared.Header.{Header}
+use Rattle.cacheline.proofs.Ranges.{scratch-ends}
 use Rattle.cacheline.proofs.geometry_of.Statement.{statement}
 use Rattle.cacheline.proofs.geometry_of.Tie as tie
 
@@ -18,15 +18,6 @@ cast-lines c = search needs
 power-for-requires : tie.Need-power-for-requires
 power-for-requires c κs = search needs
 
-cast-first : tie.Need-cast-first
-cast-first c = search needs
-
-cast-end : tie.Need-cast-end
-cast-end c = search needs
-
-add-end : tie.Need-add-end
-add-end c = search needs
-
 divider-by-requires : tie.Need-divider-by-requires
 divider-by-requires c κs = search needs
 
@@ -35,12 +26,15 @@ mask-by-requires c κs = search needs
 
 returns : tie.Need-returns
 returns c =
-    let read = c .before .before .before .before .before .before .header .ensures in
+    let found = c .before .before .before .before in
+    let read = found .header .ensures in
+    let start = found .before .before in
     record {
       sound = record { some = read .1; most = read .2; divides = c .before .divider-by .ensures; masks = c .mask-by .ensures };
       count = ap (λ (h : Header). h .«line_count») (read .0);
       first = ap (λ (h : Header). h .scratch .first) (read .0);
-      end = ap (λ (h : Header). h .scratch .first + h .scratch .count) (read .0);
+      bypassing = ap (λ (h : Header). h .scratch .count) (read .0);
+      ends = rw (read .0) (scratch-ends (start .args .file .now) (start .pre));
     }
 
 pub geometry-of-spec : {M : Type 1} → statement M
@@ -51,9 +45,6 @@ geometry-of-spec =
     cast-line-count
     cast-lines
     power-for-requires
-    cast-first
-    cast-end
-    add-end
     divider-by-requires
     mask-by-requires
     returns)

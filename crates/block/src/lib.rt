@@ -2,7 +2,7 @@
 ghost use mathlib.Core.Path.{_≡_};
 ghost use mathlib.Core.Bool.{_&&_};
 ghost use mathlib.Core.List.{_++_};
-ghost use Prim.Native.Nat.{_+_, _-_, _*_, _≤_};
+ghost use Prim.Native.Nat.{_+_, _-_, _*_, _%_, _≤_};
 ghost use lib.ListN.{length, take, drop, replicate};
 ghost use Rattle.fnv.specs.Fnv.{fnv1a};
 ghost use Rattle.block.specs.Bytes.{le, les, field, zerosBetween};
@@ -225,31 +225,32 @@ fn seal_four(blocks: &mut [u8])
     put_u32(blocks, 2044, hashes.d);
 }
 
-// Stores the checksums of the first blocks, four at a time, and answers how many have theirs.
-fn seal_fours(file: &mut [u8], count: usize) -> usize
+// Stores the checksums of the first blocks, one by one, as many as are left over from fours, and answers how many those are.
+fn seal_few(file: &mut [u8], count: usize) -> usize
     requires { ⌜ 512 * count ≤ length (now file) ⌝ }
-    ensures { λ r. ⌜ SealedSoFar (now (file .entry)) count (now (file .exit)) r ⌝ }
+    ensures { λ r. ⌜ SealedSoFar (now (file .entry)) count (now (file .exit)) r × (r ≡ count % 4) ⌝ }
 {
+    let few = count % 4;
     let mut k = 0;
-    while 4 <= count - k {
-        let start = k * 512;
-        let end = start + 2048;
-        seal_four(&mut file[start..end]);
-        k += 4;
-    }
-    k
-}
-
-// Stores the checksums of the first blocks.
-pub fn seal_blocks(file: &mut [u8], count: usize)
-    requires { ⌜ 512 * count ≤ length (now file) ⌝ }
-    ensures { λ _. ⌜ now (file .exit) ≡ sealedBlocks count (now (file .entry)) ++ drop (512 * count) (now (file .entry)) ⌝ }
-{
-    let mut k = seal_fours(file, count);
-    while k < count {
+    while k < few {
         let start = k * 512;
         let end = start + 512;
         seal(&mut file[start..end]);
         k += 1;
+    }
+    k
+}
+
+// Stores the checksums of the first blocks, four at a time behind a few: the header is among those, and most of its bytes are zeros.
+pub fn seal_blocks(file: &mut [u8], count: usize)
+    requires { ⌜ 512 * count ≤ length (now file) ⌝ }
+    ensures { λ _. ⌜ now (file .exit) ≡ sealedBlocks count (now (file .entry)) ++ drop (512 * count) (now (file .entry)) ⌝ }
+{
+    let mut k = seal_few(file, count);
+    while k < count {
+        let start = k * 512;
+        let end = start + 2048;
+        seal_four(&mut file[start..end]);
+        k += 4;
     }
 }

@@ -1,8 +1,10 @@
-// 32-bit FNV-1a.
+// 32-bit FNV-1a. Eight zeros at once are one product, and most bytes of a block are zeros.
 ghost use mathlib.Core.Path.{_≡_};
-ghost use Prim.Native.Nat.{_*_, _%_, _^_};
-ghost use lib.ListN.{length};
-ghost use Rattle.fnv.specs.Fnv.{step, fnv1a};
+ghost use mathlib.Core.Bool.{true};
+ghost use Prim.Native.Nat.{_+_, _*_, _%_, _^_, _<_, _≤_};
+ghost use lib.ListN.{length, replicate};
+ghost use Rattle.fnv.specs.Fnv.{step, hashFrom, fnv1a};
+ghost use Rattle.fnv.specs.Steps.{ZeroIf, Reached, HashedOn, AllReached};
 
 // The low 32 bits of a product.
 pub fn wrapping_mul(a: u32, b: u32) -> u32
@@ -18,17 +20,98 @@ pub fn mixed(state: u32, byte: u8) -> u32
     wrapping_mul(state ^ byte as u32, 16777619)
 }
 
-// The hash of all of bytes.
-pub fn hash(bytes: &[u8]) -> u32
-    ensures { λ r. ⌜ r ≡ fnv1a (now (bytes .entry)) ⌝ }
+// The state after all of bytes.
+fn mixed_all(from: u32, bytes: &[u8]) -> u32
+    ensures { λ r. ⌜ r ≡ hashFrom from (now (bytes .entry)) ⌝ }
 {
-    let mut state: u32 = 2166136261;
+    let mut state = from;
     let mut i = 0;
     while i < bytes.len() {
         state = mixed(state, bytes[i]);
         i += 1;
     }
     state
+}
+
+// The state after eight zeros: 1566662433 are the low 32 bits of 16777619^8.
+fn mixed_zeros(state: u32) -> u32
+    ensures { λ r. ⌜ r ≡ hashFrom state (replicate 8 0) ⌝ }
+{
+    wrapping_mul(state, 1566662433)
+}
+
+// The number that two bytes make.
+fn two_at(bytes: &[u8], at: usize) -> u64
+    requires { ⌜ at + 2 ≤ length (now bytes) ⌝ }
+    ensures { λ r. ⌜ ZeroIf 2 (now (bytes .entry)) at r × (r < 65536) ⌝ }
+{
+    let low = bytes[at] as u64;
+    let high = bytes[at + 1] as u64;
+    low + 256 * high
+}
+
+// The number that four bytes make.
+fn four_at(bytes: &[u8], at: usize) -> u64
+    requires { ⌜ at + 4 ≤ length (now bytes) ⌝ }
+    ensures { λ r. ⌜ ZeroIf 4 (now (bytes .entry)) at r × (r < 4294967296) ⌝ }
+{
+    two_at(bytes, at) + 65536 * two_at(bytes, at + 2)
+}
+
+// The number that eight bytes make. It is a function of its own for the compiler, which makes one load of it.
+fn eight_at(bytes: &[u8], at: usize) -> u64
+    requires { ⌜ at + 8 ≤ length (now bytes) ⌝ }
+    ensures { λ r. ⌜ ZeroIf 8 (now (bytes .entry)) at r ⌝ }
+{
+    four_at(bytes, at) + 4294967296 * four_at(bytes, at + 4)
+}
+
+// Whether eight bytes are zeros: the number that they make is.
+fn is_zero_word(word: &[u8]) -> bool
+    requires { ⌜ length (now word) ≡ 8 ⌝ }
+    ensures { λ r. ⌜ (r ≡ true → now (word .entry) ≡ replicate 8 0) ⌝ }
+{
+    eight_at(word, 0) == 0
+}
+
+// The state after eight bytes.
+fn mixed_word(state: u32, word: &[u8]) -> u32
+    requires { ⌜ length (now word) ≡ 8 ⌝ }
+    ensures { λ r. ⌜ r ≡ hashFrom state (now (word .entry)) ⌝ }
+{
+    if is_zero_word(word) {
+        return mixed_zeros(state);
+    }
+    mixed_all(state, word)
+}
+
+// A hash that has come up to a place.
+struct Part {
+    state: u32,
+    at: usize,
+}
+
+// The hash of bytes up to the end of their last word.
+fn hash_words(bytes: &[u8]) -> Part
+    ensures { λ r. ⌜ Reached 2166136261 (now (bytes .entry)) (r .at) (r .state) ⌝ }
+{
+    let mut state: u32 = 2166136261;
+    let mut at = 0;
+    while 8 <= bytes.len() - at {
+        let end = at + 8;
+        state = mixed_word(state, &bytes[at..end]);
+        at = end;
+    }
+    Part { state, at }
+}
+
+// The hash of all of bytes.
+pub fn hash(bytes: &[u8]) -> u32
+    ensures { λ r. ⌜ r ≡ fnv1a (now (bytes .entry)) ⌝ }
+{
+    let part = hash_words(bytes);
+    let at = part.at;
+    mixed_all(part.state, &bytes[at..])
 }
 
 // The hashes of four slices.
@@ -39,15 +122,15 @@ pub struct FourHashes {
     pub d: u32,
 }
 
-// The hashes of four slices of one length, side by side: no product waits for that of another slice.
-pub fn hash_four(a: &[u8], b: &[u8], c: &[u8], d: &[u8]) -> FourHashes
+// The states after all of four slices of one length, side by side: no product waits for that of another slice.
+fn mixed_four(from: FourHashes, a: &[u8], b: &[u8], c: &[u8], d: &[u8]) -> FourHashes
     requires { ⌜ (length (now b) ≡ length (now a)) × (length (now c) ≡ length (now a)) × (length (now d) ≡ length (now a)) ⌝ }
-    ensures { λ r. ⌜ (r .a ≡ fnv1a (now (a .entry))) × (r .b ≡ fnv1a (now (b .entry))) × (r .c ≡ fnv1a (now (c .entry))) × (r .d ≡ fnv1a (now (d .entry))) ⌝ }
+    ensures { λ r. ⌜ HashedOn from (now (a .entry)) (now (b .entry)) (now (c .entry)) (now (d .entry)) r ⌝ }
 {
-    let mut state_a: u32 = 2166136261;
-    let mut state_b: u32 = 2166136261;
-    let mut state_c: u32 = 2166136261;
-    let mut state_d: u32 = 2166136261;
+    let mut state_a = from.a;
+    let mut state_b = from.b;
+    let mut state_c = from.c;
+    let mut state_d = from.d;
     let mut i = 0;
     while i < a.len() {
         state_a = mixed(state_a, a[i]);
@@ -62,4 +145,73 @@ pub fn hash_four(a: &[u8], b: &[u8], c: &[u8], d: &[u8]) -> FourHashes
         c: state_c,
         d: state_d,
     }
+}
+
+// Whether four words are all zeros; the first that is not ends the test.
+fn are_zero_words(a: &[u8], b: &[u8], c: &[u8], d: &[u8]) -> bool
+    requires { ⌜ (length (now a) ≡ 8) × (length (now b) ≡ 8) × (length (now c) ≡ 8) × (length (now d) ≡ 8) ⌝ }
+    ensures { λ r. ⌜ (r ≡ true → (now (a .entry) ≡ replicate 8 0) × (now (b .entry) ≡ replicate 8 0) × (now (c .entry) ≡ replicate 8 0) × (now (d .entry) ≡ replicate 8 0)) ⌝ }
+{
+    if !is_zero_word(a) {
+        return false;
+    }
+    if !is_zero_word(b) {
+        return false;
+    }
+    if !is_zero_word(c) {
+        return false;
+    }
+    is_zero_word(d)
+}
+
+// The states after eight bytes of each of four slices.
+fn mixed_words(from: FourHashes, a: &[u8], b: &[u8], c: &[u8], d: &[u8]) -> FourHashes
+    requires { ⌜ (length (now a) ≡ 8) × (length (now b) ≡ 8) × (length (now c) ≡ 8) × (length (now d) ≡ 8) ⌝ }
+    ensures { λ r. ⌜ HashedOn from (now (a .entry)) (now (b .entry)) (now (c .entry)) (now (d .entry)) r ⌝ }
+{
+    if are_zero_words(a, b, c, d) {
+        return FourHashes {
+            a: mixed_zeros(from.a),
+            b: mixed_zeros(from.b),
+            c: mixed_zeros(from.c),
+            d: mixed_zeros(from.d),
+        };
+    }
+    mixed_four(from, a, b, c, d)
+}
+
+// Four hashes that have come up to a place.
+struct FourParts {
+    states: FourHashes,
+    at: usize,
+}
+
+// The hashes of four slices of one length up to the end of their last word.
+fn hash_four_words(a: &[u8], b: &[u8], c: &[u8], d: &[u8]) -> FourParts
+    requires { ⌜ (length (now b) ≡ length (now a)) × (length (now c) ≡ length (now a)) × (length (now d) ≡ length (now a)) ⌝ }
+    ensures { λ r. ⌜ AllReached (now (a .entry)) (now (b .entry)) (now (c .entry)) (now (d .entry)) (r .at) (r .states) ⌝ }
+{
+    let mut states = FourHashes {
+        a: 2166136261,
+        b: 2166136261,
+        c: 2166136261,
+        d: 2166136261,
+    };
+    let mut at = 0;
+    while 8 <= a.len() - at {
+        let end = at + 8;
+        states = mixed_words(states, &a[at..end], &b[at..end], &c[at..end], &d[at..end]);
+        at = end;
+    }
+    FourParts { states, at }
+}
+
+// The hashes of four slices of one length.
+pub fn hash_four(a: &[u8], b: &[u8], c: &[u8], d: &[u8]) -> FourHashes
+    requires { ⌜ (length (now b) ≡ length (now a)) × (length (now c) ≡ length (now a)) × (length (now d) ≡ length (now a)) ⌝ }
+    ensures { λ r. ⌜ (r .a ≡ fnv1a (now (a .entry))) × (r .b ≡ fnv1a (now (b .entry))) × (r .c ≡ fnv1a (now (c .entry))) × (r .d ≡ fnv1a (now (d .entry))) ⌝ }
+{
+    let parts = hash_four_words(a, b, c, d);
+    let at = parts.at;
+    mixed_four(parts.states, &a[at..], &b[at..], &c[at..], &d[at..])
 }

@@ -64,12 +64,27 @@ fn four_right(file: &[u8], k: usize) -> bool
     )
 }
 
-// How many blocks are left past the fours of right checksums.
-fn left_after_fours(file: &[u8]) -> usize
+// How many blocks are left past the first few, those left over from fours, if their checksums are right.
+fn left_after_few(file: &[u8]) -> usize
     ensures { λ r. ⌜ LeftToTest (now (file .entry)) r ⌝ }
 {
     let count = file.len() / 512;
     let mut left = count;
+    while left % 4 != 0 {
+        if !block::checksum_right(block_at(file, count - left)) {
+            return left;
+        }
+        left -= 1;
+    }
+    left
+}
+
+// How many blocks are left past the fours of right checksums behind them.
+fn left_after_fours(file: &[u8]) -> usize
+    ensures { λ r. ⌜ LeftToTest (now (file .entry)) r ⌝ }
+{
+    let count = file.len() / 512;
+    let mut left = left_after_few(file);
     while left >= 4 {
         if !four_right(file, count - left) {
             return left;

@@ -1,28 +1,30 @@
--- `block::seal_blocks` meets its contract. The loop's invariant: the first `k` blocks have their checksums, if those before the loop had.
+-- `block::seal_blocks` meets its contract. The loop's invariant: the first `k` blocks have their checksums, if those before the loop had, and those left are fours.
 -- Assumes nothing.
-use Prim.Native.Nat.{_+_, _-_, _*_, _≤_}
-use mathlib.Core.Path.{_≡_, refl, _∙_}
+use Prim.Native.Nat.{_+_, _-_, _*_, _%_, _≤_}
+use mathlib.Core.Path.{_≡_, refl}
 use mathlib.Core.List.{List}
 use native.Mathlib.Omega.{arith}
-use lib.ListN.{length, take, drop, length-take, length-drop}
+use lib.ListN.{length, length-take, length-drop}
 use borrow.Author.Needs.{needs}
 use Rattle.block.specs.Steps.{SealedSoFar}
-use Rattle.block.proofs.Sealing.{sealed-more, sealed-one, sealed-all}
+use Rattle.block.proofs.Sealing.{sealed-more, sealed-all}
 use Rattle.block.proofs.seal_blocks.Statement.{statement}
 use Rattle.block.proofs.seal_blocks.Tie as tie
 
 abbrev Inv-loop : tie.InvT-loop
 Inv-loop file₀ count k₀ file k =
-    (k ≤ count) × (length file ≡ length file₀) × ((bs : List _) → SealedSoFar bs count file₀ k₀ → SealedSoFar bs count file k)
+    (k ≤ count) × ((count - k) % 4 ≡ 0) × (length file ≡ length file₀) × ((bs : List _) → SealedSoFar bs count file₀ k₀ → SealedSoFar bs count file k)
 
 abbrev μ-loop : tie.MeasureT-loop
 μ-loop file₀ count k₀ file k = count - k
 
-seal-fours-requires : tie.Need-seal-fours-requires Inv-loop μ-loop
-seal-fours-requires c κs = search needs
+seal-few-requires : tie.Need-seal-few-requires Inv-loop μ-loop
+seal-few-requires c κs = search needs
 
 loop-holds : tie.Need-loop-holds Inv-loop μ-loop
-loop-holds c = (c .before .before .seal-fours .ensures .most, refl, λ bs s. s)
+loop-holds c =
+    let few = c .before .before .seal-few .ensures in
+    (few .0 .most, omega (arith, few .1), refl, λ bs s. s)
 
 mul-start : tie.Need-mul-start Inv-loop μ-loop
 mul-start c = search needs
@@ -30,17 +32,17 @@ mul-start c = search needs
 add-end : tie.Need-add-end Inv-loop μ-loop
 add-end c = search needs
 
-sub-seal : tie.Need-sub-seal Inv-loop μ-loop
-sub-seal c = search needs
+sub-seal-four : tie.Need-sub-seal-four Inv-loop μ-loop
+sub-seal-four c = search needs
 
-part-seal-start : tie.Need-part-seal-start Inv-loop μ-loop
-part-seal-start c = search needs
+part-seal-four-start : tie.Need-part-seal-four-start Inv-loop μ-loop
+part-seal-four-start c = search needs
 
-part-seal-end : tie.Need-part-seal-end Inv-loop μ-loop
-part-seal-end c = search needs
+part-seal-four-end : tie.Need-part-seal-four-end Inv-loop μ-loop
+part-seal-four-end c = search needs
 
-seal-requires : tie.Need-seal-requires Inv-loop μ-loop
-seal-requires c κs = simp (length-take, length-drop) (omega arith)
+seal-four-requires : tie.Need-seal-four-requires Inv-loop μ-loop
+seal-four-requires c κs = simp (length-take, length-drop) (omega arith)
 
 add-k : tie.Need-add-k Inv-loop μ-loop
 add-k c = search needs
@@ -53,12 +55,13 @@ loop-again c =
     let sealed = c .before .before in
     let loop = sealed .before .before .before .loop in
     let from = loop .k * 512 in
-    let size = from + 512 - from in (
+    let size = from + 2048 - from in (
+      omega arith,
+      omega arith,
       search needs,
-      search needs,
-      λ bs s. sealed-more 1 (loop .k) (sealed .before .before .before .before .before .before .before .before .before .args .count) from size bs (loop .file)
-          (sealed .seal .last .0) (omega arith) (omega arith) (omega arith) (omega arith) (loop .inv .2 bs s)
-          (sealed .seal .ensures ∙ sealed-one (take size (drop from (loop .file)))),
+      λ bs s. sealed-more 4 (loop .k) (sealed .before .before .before .before .before .before .before .before .before .args .count) from size bs (loop .file)
+          (sealed .seal-four .last .0) (omega arith) (omega arith) (omega arith) (omega arith) (loop .inv .3 bs s)
+          (sealed .seal-four .ensures),
     )
 
 same-length : tie.Need-same-length Inv-loop μ-loop
@@ -67,10 +70,10 @@ same-length c = search needs
 returns : tie.Need-returns Inv-loop μ-loop
 returns c =
     let loop = c .before .loop in
-    let fours = c .before .before .before .before in
-    let args = fours .before .before .before .args in
+    let few = c .before .before .before .before in
+    let args = few .before .before .before .args in
     let all : loop .k ≡ args .count = omega arith in
-    sealed-all (args .count) (args .file .now) (loop .file) (rw all at (loop .inv .2 (args .file .now) (fours .seal-fours .ensures)))
+    sealed-all (args .count) (args .file .now) (loop .file) (rw all at (loop .inv .3 (args .file .now) (few .seal-few .ensures .0)))
 
 pub seal-blocks-spec : {M : Type 1} → statement M
 seal-blocks-spec =
@@ -78,14 +81,14 @@ seal-blocks-spec =
     (tie.spec
     Inv-loop
     μ-loop
-    seal-fours-requires
+    seal-few-requires
     loop-holds
     mul-start
     add-end
-    sub-seal
-    part-seal-start
-    part-seal-end
-    seal-requires
+    sub-seal-four
+    part-seal-four-start
+    part-seal-four-end
+    seal-four-requires
     add-k
     loop-less
     loop-again

@@ -1,50 +1,40 @@
--- `fnv::hash` meets its contract. The loop's invariant: the chain has reached `i`.
--- Assumes nothing.
-use Prim.Native.Nat.{_≤_, _-_}
-use native.Mathlib.Omega.{arith}
-use lib.ListN.{length}
+-- `fnv::hash` meets its contract: the words, and then what is left. Assumes nothing.
 use borrow.Author.Needs.{needs}
-use Rattle.fnv.proofs.Chain.{Reached, chain-start, chain-next, chain-end}
+use Rattle.fnv.specs.Fnv.{fnv1a}
+use Rattle.fnv.proofs.Chain.{chain-rest}
 use Rattle.fnv.proofs.hash.Statement.{statement}
 use Rattle.fnv.proofs.hash.Tie as tie
+use Rattle.fnv.proofs.hash_words.Reads as hash-words-reads
+use Rattle.fnv.proofs.mixed_all.Reads as mixed-all-reads
 
-abbrev Inv-loop : tie.InvT-loop
-Inv-loop bytes state₀ i₀ state i = (i ≤ length bytes) × Reached bytes i state
+hash-words-requires : tie.Need-hash-words-requires
+hash-words-requires c κs = search needs
 
-abbrev μ-loop : tie.MeasureT-loop
-μ-loop bytes state₀ i₀ state i = length bytes - i
+sub-mixed-all : tie.Need-sub-mixed-all
+sub-mixed-all c = search needs
 
-loop-holds : tie.Need-loop-holds Inv-loop μ-loop
-loop-holds c = (search needs, chain-start)
+part-mixed-all-start : tie.Need-part-mixed-all-start
+part-mixed-all-start c = search needs
 
-shared-slice-read-mixed : tie.Need-shared-slice-read-mixed Inv-loop μ-loop
-shared-slice-read-mixed c = search needs
+part-mixed-all-end : tie.Need-part-mixed-all-end
+part-mixed-all-end c = search needs
 
-mixed-requires : tie.Need-mixed-requires Inv-loop μ-loop
-mixed-requires c κs = search needs
+mixed-all-requires : tie.Need-mixed-all-requires
+mixed-all-requires c κs = search needs
 
-add-i : tie.Need-add-i Inv-loop μ-loop
-add-i c = search needs
-
-loop-less : tie.Need-loop-less Inv-loop μ-loop
-loop-less c = search needs
-
-loop-again : tie.Need-loop-again Inv-loop μ-loop
-loop-again c = (search needs, chain-next (c .before .before .before .loop .inv .1) (c .mixed .ensures) (c .before .before .loop-test .taken))
-
-returns : tie.Need-returns Inv-loop μ-loop
-returns c = chain-end (c .before .loop .inv .1) (omega arith)
+returns : tie.Need-returns
+unfolding fnv1a
+returns c =
+    let words = c .before .before .hash-words in
+    chain-rest (words .ensures) (c .mixed-all .ensures)
 
 pub hash-spec : {M : Type 1} → statement M
 hash-spec =
     tie.close
     (tie.spec
-    Inv-loop
-    μ-loop
-    loop-holds
-    shared-slice-read-mixed
-    mixed-requires
-    add-i
-    loop-less
-    loop-again
+    hash-words-requires
+    sub-mixed-all
+    part-mixed-all-start
+    part-mixed-all-end
+    mixed-all-requires
     returns)

@@ -1,91 +1,81 @@
--- `fnv::hash_four` meets its contract. The loop's invariant: each of the four chains has reached `i`.
--- Assumes nothing.
-use Prim.Native.Nat.{_≤_, _-_}
-use native.Mathlib.Omega.{arith}
-use lib.ListN.{length}
+-- `fnv::hash_four` meets its contract: the words, and then what is left. Assumes nothing.
 use borrow.Author.Needs.{needs}
-use Rattle.fnv.proofs.Chain.{Reached, chain-start, chain-next, chain-end}
+use Rattle.fnv.specs.Fnv.{fnv1a}
+use Rattle.fnv.proofs.Chain.{chain-rest}
 use Rattle.fnv.proofs.hash_four.Statement.{statement}
 use Rattle.fnv.proofs.hash_four.Tie as tie
+use Rattle.fnv.proofs.hash_four_words.Reads as hash-four-words-reads
+use Rattle.fnv.proofs.mixed_four.Reads as mixed-four-reads
 
-abbrev Inv-loop : tie.InvT-loop
-Inv-loop a b c d state-a₀ state-b₀ state-c₀ state-d₀ i₀ state-a state-b state-c state-d i =
-    (i ≤ length a) × Reached a i state-a × Reached b i state-b × Reached c i state-c × Reached d i state-d
+hash-four-words-requires : tie.Need-hash-four-words-requires
+hash-four-words-requires c κs = search needs
 
-abbrev μ-loop : tie.MeasureT-loop
-μ-loop a b c d state-a₀ state-b₀ state-c₀ state-d₀ i₀ state-a state-b state-c state-d i = length a - i
+sub-mixed-four : tie.Need-sub-mixed-four
+sub-mixed-four c = search needs
 
-loop-holds : tie.Need-loop-holds Inv-loop μ-loop
-loop-holds c = (search needs, chain-start, chain-start, chain-start, chain-start)
+part-mixed-four-start : tie.Need-part-mixed-four-start
+part-mixed-four-start c = search needs
 
-shared-slice-read-mixed : tie.Need-shared-slice-read-mixed Inv-loop μ-loop
-shared-slice-read-mixed c = search needs
+part-mixed-four-end : tie.Need-part-mixed-four-end
+part-mixed-four-end c = search needs
 
-mixed-requires : tie.Need-mixed-requires Inv-loop μ-loop
-mixed-requires c κs = search needs
+sub-mixed-four-2 : tie.Need-sub-mixed-four-2
+sub-mixed-four-2 c = search needs
 
-shared-slice-read-mixed-2 : tie.Need-shared-slice-read-mixed-2 Inv-loop μ-loop
-shared-slice-read-mixed-2 c = search needs
+part-mixed-four-start-2 : tie.Need-part-mixed-four-start-2
+part-mixed-four-start-2 c = search needs
 
-mixed-requires-2 : tie.Need-mixed-requires-2 Inv-loop μ-loop
-mixed-requires-2 c κs = search needs
+part-mixed-four-end-2 : tie.Need-part-mixed-four-end-2
+part-mixed-four-end-2 c = search needs
 
-shared-slice-read-mixed-3 : tie.Need-shared-slice-read-mixed-3 Inv-loop μ-loop
-shared-slice-read-mixed-3 c = search needs
+sub-mixed-four-3 : tie.Need-sub-mixed-four-3
+sub-mixed-four-3 c = search needs
 
-mixed-requires-3 : tie.Need-mixed-requires-3 Inv-loop μ-loop
-mixed-requires-3 c κs = search needs
+part-mixed-four-start-3 : tie.Need-part-mixed-four-start-3
+part-mixed-four-start-3 c = search needs
 
-shared-slice-read-mixed-4 : tie.Need-shared-slice-read-mixed-4 Inv-loop μ-loop
-shared-slice-read-mixed-4 c = search needs
+part-mixed-four-end-3 : tie.Need-part-mixed-four-end-3
+part-mixed-four-end-3 c = search needs
 
-mixed-requires-4 : tie.Need-mixed-requires-4 Inv-loop μ-loop
-mixed-requires-4 c κs = search needs
+sub-mixed-four-4 : tie.Need-sub-mixed-four-4
+sub-mixed-four-4 c = search needs
 
-add-i : tie.Need-add-i Inv-loop μ-loop
-add-i c = search needs
+part-mixed-four-start-4 : tie.Need-part-mixed-four-start-4
+part-mixed-four-start-4 c = search needs
 
-loop-less : tie.Need-loop-less Inv-loop μ-loop
-loop-less c = search needs
+part-mixed-four-end-4 : tie.Need-part-mixed-four-end-4
+part-mixed-four-end-4 c = search needs
 
-loop-again : tie.Need-loop-again Inv-loop μ-loop
-loop-again c =
-    let third = c .before .before in
-    let second = third .before .before in
-    let first = second .before .before in
-    let chains = first .before .before .before .loop .inv in (
-      search needs,
-      chain-next (chains .1) (first .mixed .ensures) (omega arith),
-      chain-next (chains .2) (second .mixed2 .ensures) (omega arith),
-      chain-next (chains .3) (third .mixed3 .ensures) (omega arith),
-      chain-next (chains .4) (c .mixed4 .ensures) (omega arith),
-    )
+mixed-four-requires : tie.Need-mixed-four-requires
+mixed-four-requires c κs = search needs
 
-returns : tie.Need-returns Inv-loop μ-loop
+returns : tie.Need-returns
+unfolding fnv1a
 returns c =
-    let chains = c .before .loop .inv in (
-      chain-end (chains .1) (omega arith),
-      chain-end (chains .2) (omega arith),
-      chain-end (chains .3) (omega arith),
-      chain-end (chains .4) (omega arith),
+    let words = c .before .before .before .before .before .hash-four-words .ensures in
+    let rest = c .mixed-four .ensures in (
+      chain-rest (words .first) (rest .first),
+      chain-rest (words .second) (rest .second),
+      chain-rest (words .third) (rest .third),
+      chain-rest (words .fourth) (rest .fourth),
     )
 
 pub hash-four-spec : {M : Type 1} → statement M
 hash-four-spec =
     tie.close
     (tie.spec
-    Inv-loop
-    μ-loop
-    loop-holds
-    shared-slice-read-mixed
-    mixed-requires
-    shared-slice-read-mixed-2
-    mixed-requires-2
-    shared-slice-read-mixed-3
-    mixed-requires-3
-    shared-slice-read-mixed-4
-    mixed-requires-4
-    add-i
-    loop-less
-    loop-again
+    hash-four-words-requires
+    sub-mixed-four
+    part-mixed-four-start
+    part-mixed-four-end
+    sub-mixed-four-2
+    part-mixed-four-start-2
+    part-mixed-four-end-2
+    sub-mixed-four-3
+    part-mixed-four-start-3
+    part-mixed-four-end-3
+    sub-mixed-four-4
+    part-mixed-four-start-4
+    part-mixed-four-end-4
+    mixed-four-requires
     returns)

@@ -1,8 +1,8 @@
 -- `taskfile::left_after_fours` meets its contract. The loop's invariant: the lowest wrong block is the lowest of those that are left.
 -- The measure is how many are left. Assumes nothing.
 use mathlib.Core.Path.{sym, _∙_}
-use native.Mathlib.Nat.{sub-self}
 use native.Mathlib.Omega.{arith}
+use borrow.Author.Needs.{needs}
 use borrow.Author.Tests.{not-false}
 use Rattle.taskfile.specs.File.{blocksIn, sumRight}
 use Rattle.taskfile.specs.Steps.{LeftToTest}
@@ -16,9 +16,12 @@ Inv-loop file count left₀ left = LeftToTest file left
 abbrev μ-loop : tie.MeasureT-loop
 μ-loop file count left₀ left = left
 
+left-after-few-requires : tie.Need-left-after-few-requires Inv-loop μ-loop
+left-after-few-requires c κs = search needs
+
 loop-holds : tie.Need-loop-holds Inv-loop μ-loop
 unfolding blocksIn
-loop-holds c = (omega arith, rw sub-self)
+loop-holds c = c .left-after-few .ensures
 
 sub-four-right : tie.Need-sub-four-right Inv-loop μ-loop
 unfolding blocksIn
@@ -42,7 +45,7 @@ loop-again c =
     let head = c .before .before .before in (
       omega arith,
       head .loop .inv .1 ∙
-          scan-four (sumRight (head .before .before .args .file .now)) _ _ _ (omega arith) (omega arith)
+          scan-four (sumRight (head .before .before .before .args .file .now)) _ _ _ (omega arith) (omega arith)
           (sym (c .before .four-right .ensures) ∙ not-false _ (c .if1 .left)),
     )
 
@@ -56,6 +59,7 @@ left-after-fours-spec =
     (tie.spec
     Inv-loop
     μ-loop
+    left-after-few-requires
     loop-holds
     sub-four-right
     four-right-requires

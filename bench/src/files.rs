@@ -106,25 +106,30 @@ pub fn seven() -> Vec<u8> {
 pub enum Again {
     InEachBlock,
     InTheLast,
+    AtTheEnds,
     Never,
 }
 
 /// The first blocks read a line once each, with one number for a line, which the seed chooses. Every later block reads them
-/// again, or the last ones alone do, or none; the other blocks read other lines.
+/// again, or the last ones alone do, or each reads its share of them at its end, or none does; all other reads are of other lines.
 pub fn reread(shape: &Shape, first: usize, again: Again, seed: u32) -> Vec<u8> {
     let (n, r) = (shape.n, shape.r);
     let held = first * r;
+    let share = |later: usize| held * later / (n - first);
     let mut file = header(shape, 64);
     for i in 0..n + shape.m {
-        let same = match again {
-            _ if i < first => true,
-            Again::InEachBlock => i < n,
-            Again::InTheLast => i < n && i + first >= n,
-            Again::Never => false,
+        let own = i % first * r..i % first * r + r;
+        let again = match again {
+            _ if i < first => own,
+            Again::InEachBlock if i < n => own,
+            Again::InTheLast if i < n && i + first >= n => own,
+            Again::AtTheEnds if i < n => share(i - first)..share(i - first + 1),
+            _ => 0..0,
         };
-        let number = |j| match same {
-            true => i % first * r + j,
-            false => held + j % (shape.s - held),
+        let others = r - again.len();
+        let number = |j| match j < others {
+            true => held + j % (shape.s - held),
+            false => again.start + j - others,
         };
         let above = seed * shape.s as u32;
         let numbers: Vec<u32> = (0..r).map(|j| above + number(j) as u32).collect();

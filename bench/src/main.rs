@@ -583,12 +583,18 @@ fn main() {
     region_row("largest file, short region", &largest, 32, 33);
     region_row("largest file, long region", &largest, 1, 64);
     region_row("File Seven", &seven, 1, 3);
-    println!("a search, and U(k); plain: one search for each line that holds something; one walk: for all lines");
+    println!("a search, and U(k); plain: for each line that holds something a search of the first block that reads it; one walk: no search");
     for (name, first, again) in [
         ("next read near", 1, Again::InEachBlock),
         ("next read far", 1, Again::InTheLast),
         ("no next read", 1, Again::Never),
         ("no next read, 496 lines held", 4, Again::Never),
+        ("next read far, 496 lines held", 4, Again::InTheLast),
+        (
+            "next read at the end of its block, 496 lines held",
+            4,
+            Again::AtTheEnds,
+        ),
     ] {
         let files = rotated(|seed| reread(&LARGEST, first, again, seed));
         search_row(name, &files, 0, first);

@@ -30,15 +30,31 @@ fn held_after(task: &Task, k: usize) -> [Option<u32>; 512] {
     held
 }
 
-/// One search for each line that holds something, as the planner does.
+/// One search for each line that holds something, of the first later block that reads it, as the planner does: the first
+/// readers are noted block after block, as far as a line needs it.
 fn useful_by_searches(task: &Task, k: usize) -> [u64; 8] {
     let mut words = [0; 8];
+    let mut readers = [None; 512];
+    let mut later = task.blocks().skip(k);
     for (c, number) in held_after(task, k).iter().enumerate() {
-        if number.is_some() && *number == search(task, c, k).0 {
-            words[c / 64] |= 1 << (c % 64);
+        if number.is_none() {
+            continue;
         }
+        while readers[c].is_none() {
+            let Some(block) = later.next() else { break };
+            for line in numbers(block).filter_map(|m| task.lines.of(m)) {
+                readers[line].get_or_insert(block);
+            }
+        }
+        let next = readers[c].and_then(|block| first_on(task, block, c));
+        words[c / 64] |= ((*number == next) as u64) << (c % 64);
     }
     words
+}
+
+/// The first read of a line in a block.
+fn first_on(task: &Task, block: &[u8], line: usize) -> Option<u32> {
+    numbers(block).find(|m| task.lines.of(*m) == Some(line))
 }
 
 /// One walk over the reads after block k for all lines: the first read of a line decides, and the

@@ -2,7 +2,7 @@
 
 use crate::time;
 use crate::trial::Trial;
-use bench::files::{drawn, rotated, Shape, LARGEST};
+use bench::files::{drawn, reread, rotated, Again, Shape, LARGEST};
 use bench::timing::keep;
 use std::hint::black_box;
 
@@ -60,12 +60,15 @@ pub fn time_calls() {
     let [left, right] = black_box(&mut out);
     let files = rotated(|seed| drawn(&LARGEST, seed));
     println!("largest file");
-    time(
-        "useful",
-        files.len(),
-        |i| keep(old::useful(&files[i], 32, &mut left[..64])),
-        |i| keep(calls::useful(&files[i], 32, &mut right[..64])),
-    );
+    let near = rotated(|seed| reread(&LARGEST, 1, Again::InEachBlock, seed));
+    for (name, files, k) in [("useful", &files, 32), ("useful near", &near, 1)] {
+        time(
+            name,
+            files.len(),
+            |i| keep(old::useful(&files[i], k, &mut left[..64])),
+            |i| keep(calls::useful(&files[i], k, &mut right[..64])),
+        );
+    }
     time(
         "next_read",
         files.len(),

@@ -2,6 +2,7 @@
 // preempters evict and which of them first, and how many lines each region loads first in each of its blocks.
 ghost use mathlib.Core.Bool.{false, not, cond, _&&_, _||_};
 ghost use mathlib.Core.Path.{_≡_};
+ghost use mathlib.Core.Logic.{_⊎_};
 ghost use Prim.Native.Nat.{ℕ, _+_, _-_, _*_, _<_, _≤_};
 ghost use lib.Dec.{eqb, ltb};
 ghost use lib.ListN.{length, getD, take, drop, replicate};
@@ -14,7 +15,7 @@ ghost use Rattle.lineset.specs.Members.{members};
 ghost use Rattle.taskfile.specs.File.{IsAccepted, counts, taskOf, entryReads};
 ghost use Rattle.cacheline.specs.Geometries.{GeometryOf, WithinCache};
 ghost use Rattle.reuse.specs.Counts.{NewLines, Rereads, rowSum, SummedRow, SummedRows, OthersStay};
-ghost use Rattle.reuse.specs.States.{HeldAfter, MarkedToo, MarkedBy, FirstMarks};
+ghost use Rattle.reuse.specs.States.{HeldAfter, MarkedToo, MarkedBy, FirstMarks, firstReadIn, FirstBy, NotedTo, Settled};
 ghost use Rattle.reuse.specs.FirstReads.{firstIn, Noted};
 use cacheline::Geometry;
 use lineset::LineSet;
@@ -94,7 +95,8 @@ fn search_block(file: &[u8], cache: Geometry, k: usize, c: usize) -> Search
     }
 }
 
-// U(k): what each line holds after block k, and one search for each line that holds something.
+// U(k): what each line holds after block k, and for each line that holds something one search, of the first block behind k that reads it, its
+// first reader. These are noted on the way, as far as a line needs it.
 pub fn useful_lines(file: &[u8], k: usize) -> LineSet
     requires { ⌜ IsAccepted (now file) × (k ≤ blockCount (taskOf (now file))) ⌝ }
     ensures { λ r. ⌜ ((c : ℕ) → members r c ≡ Lines.useful (taskOf (now (file .entry))) k c) ⌝ }
@@ -102,14 +104,93 @@ pub fn useful_lines(file: &[u8], k: usize) -> LineSet
     let cache = cacheline::geometry_of(file);
     let count = cache.line_count as usize;
     let held = held_after(file, cache, k);
+    let mut readers = [0u8; 512];
     let mut lines = LineSet::empty();
+    let mut b = k;
     let mut c = 0;
     while c < count {
         let line = held[c];
-        lines = with_marked(lines, c, is_reread(file, cache, k, c, line));
+        b = note_for(&mut readers, file, cache, b, c, line);
+        lines = with_marked(
+            lines,
+            c,
+            is_reread(file, cache, readers[c] as usize, c, line),
+        );
         c += 1;
     }
     lines
+}
+
+// Notes first readers behind block b until line c has one, if the line holds something; answers the last block that was noted.
+fn note_for(
+    readers: &mut [u8; 512],
+    file: &[u8],
+    cache: Geometry,
+    b: usize,
+    c: usize,
+    line: Line,
+) -> usize
+    requires { ⌜ (length (now readers) ≡ 512) × (c < 512) ⌝ }
+    requires { ⌜ IsAccepted (now file) × (b ≤ blockCount (taskOf (now file))) × GeometryOf (taskOf (now file)) cache ⌝ }
+    ensures { λ r. ⌜ NotedTo (taskOf (now (file .entry))) b r (now (readers .entry)) (now (readers .exit)) ⌝ }
+    ensures { λ r. ⌜ (line ≡ Line.Empty) ⊎ Settled (taskOf (now (file .entry))) r (now (readers .exit)) c ⌝ }
+{
+    match line {
+        Line::Empty => b,
+        Line::Held(_) => note_until(readers, file, cache, b, c),
+    }
+}
+
+// Notes first readers behind block b, block after block, until line c has one or no block is left; answers the last block that was noted.
+fn note_until(readers: &mut [u8; 512], file: &[u8], cache: Geometry, b: usize, c: usize) -> usize
+    requires { ⌜ (length (now readers) ≡ 512) × (c < 512) ⌝ }
+    requires { ⌜ IsAccepted (now file) × (b ≤ blockCount (taskOf (now file))) × GeometryOf (taskOf (now file)) cache ⌝ }
+    ensures { λ r. ⌜ NotedTo (taskOf (now (file .entry))) b r (now (readers .entry)) (now (readers .exit)) ⌝ }
+    ensures { λ r. ⌜ Settled (taskOf (now (file .entry))) r (now (readers .exit)) c ⌝ }
+{
+    let blocks = taskfile::block_count(file);
+    let mut i = b;
+    while (i < blocks) & (readers[c] == 0) {
+        i += 1;
+        note_block(readers, file, cache, i);
+    }
+    i
+}
+
+// Notes block k of the file as the first reader of the lines that it reads and that have none.
+fn note_block(readers: &mut [u8; 512], file: &[u8], cache: Geometry, k: usize)
+    requires { ⌜ length (now readers) ≡ 512 ⌝ }
+    requires { ⌜ IsAccepted (now file) × (1 ≤ k) × (k ≤ counts (now file) .blocks) ⌝ }
+    requires { ⌜ GeometryOf (taskOf (now file)) cache ⌝ }
+    ensures { λ _. ⌜ length (now (readers .exit)) ≡ 512 ⌝ }
+    ensures { λ _. ⌜ FirstBy (λ d. anyRead (onLine (taskOf (now (file .entry))) d) (entryReads (now (file .entry)) k)) k (now (readers .entry)) (now (readers .exit)) ⌝ }
+{
+    let reads = taskfile::read_count(file, k);
+    let mut j = 0;
+    while j < reads {
+        let mapping = cache.line_of(taskfile::read(file, k, j));
+        note_reader(readers, mapping, k as u8);
+        j += 1;
+    }
+}
+
+// Notes a block as the first reader of a line, if there is one and it has none.
+fn note_reader(readers: &mut [u8; 512], mapping: Mapping, by: u8)
+    requires { ⌜ (length (now readers) ≡ 512) × WithinCache mapping ⌝ }
+    ensures { λ _. ⌜ length (now (readers .exit)) ≡ 512 ⌝ }
+    ensures { λ _. ⌜ FirstBy (λ d. isLine d mapping) by (now (readers .entry)) (now (readers .exit)) ⌝ }
+{
+    match mapping {
+        Mapping::Uncached => {}
+        Mapping::Cached(c) => readers[c] = first_reader(readers[c], by),
+    }
+}
+
+// The reader that is noted, or this one if none is.
+fn first_reader(noted: u8, by: u8) -> u8
+    ensures { λ r. ⌜ r ≡ cond (eqb noted 0) by noted ⌝ }
+{
+    if noted == 0 { by } else { noted }
 }
 
 // U(a), and the union of T(a + 1) to T(b): what each line holds after block a, and what is read on it first behind that edge.
@@ -251,23 +332,26 @@ fn held_after(file: &[u8], cache: Geometry, k: usize) -> [Line; 512]
     held
 }
 
-// Whether line c, which holds this after block k, is read next for the same memory block.
-fn is_reread(file: &[u8], cache: Geometry, k: usize, c: usize, line: Line) -> bool
-    requires { ⌜ IsAccepted (now file) × (k ≤ blockCount (taskOf (now file))) × GeometryOf (taskOf (now file)) cache ⌝ }
-    ensures { λ r. ⌜ r ≡ sameBlock line (nextRead (taskOf (now (file .entry))) k c) ⌝ }
+// Whether line c, which holds this, is read first in block b for the same memory block; there is no block 0.
+fn is_reread(file: &[u8], cache: Geometry, b: usize, c: usize, line: Line) -> bool
+    requires { ⌜ IsAccepted (now file) × (b ≤ blockCount (taskOf (now file))) × GeometryOf (taskOf (now file)) cache ⌝ }
+    ensures { λ r. ⌜ r ≡ sameBlock line (firstReadIn (taskOf (now (file .entry))) b c) ⌝ }
 {
     match line {
         Line::Empty => false,
-        Line::Held(number) => is_next(file, cache, k, c, number),
+        Line::Held(number) => is_next(file, cache, b, c, number),
     }
 }
 
-// Whether the next read of line c after block k is of this memory block.
-fn is_next(file: &[u8], cache: Geometry, k: usize, c: usize, number: u32) -> bool
-    requires { ⌜ IsAccepted (now file) × (k ≤ blockCount (taskOf (now file))) × GeometryOf (taskOf (now file)) cache ⌝ }
-    ensures { λ r. ⌜ r ≡ sameBlock (Line.Held number) (nextRead (taskOf (now (file .entry))) k c) ⌝ }
+// Whether the first read of line c in block b is of this memory block.
+fn is_next(file: &[u8], cache: Geometry, b: usize, c: usize, number: u32) -> bool
+    requires { ⌜ IsAccepted (now file) × (b ≤ blockCount (taskOf (now file))) × GeometryOf (taskOf (now file)) cache ⌝ }
+    ensures { λ r. ⌜ r ≡ sameBlock (Line.Held number) (firstReadIn (taskOf (now (file .entry))) b c) ⌝ }
 {
-    let found = search_from(file, cache, k, c);
+    if b == 0 {
+        return false;
+    }
+    let found = search_block(file, cache, b, c);
     let next = found.next;
     match next {
         Next::Never => false,

@@ -1,28 +1,35 @@
--- `reuse::useful_lines` meets its contract. The loop's invariant: the set is the useful lines below c. No line beyond the cache is useful.
--- Assumes nothing.
-use Prim.Native.Nat.{ℕ, _-_, _≤_}
+-- `reuse::useful_lines` meets its contract. The loop's invariant: the set is the useful lines below c, and the readers are noted up to block b. No line
+-- beyond the cache is useful. Assumes nothing.
+use Prim.Native.Nat.{ℕ, _-_, _≤_, _<_}
 use mathlib.Core.Path.{_≡_, refl, sym, ap, _∙_}
 use mathlib.Core.Bool.{Bool, _&&_, _||_}
 use mathlib.Core.Logic.{by-cases}
 use native.Mathlib.Decide.{decLt}
 use native.Mathlib.Omega.{arith}
 use lib.Dec.{eqb, ltb}
+use lib.ListN.{length, getD, getD-replicate}
 use borrow.Author.Tests.{lt-ltb, le-ltb}
-use Rattle.model.specs.Lines.{nextRead, sameBlock, useful}
-use Rattle.model.specs.declared.Line.{Line}
+use Rattle.model.specs.Task.{blockCount}
+use Rattle.model.specs.Lines.{useful}
+use Rattle.model.specs.declared.Line.the-variants.{Empty}
 use Rattle.model.proofs.LineStates.{useful-beyond}
 use Rattle.lineset.specs.Members.{members}
 use Rattle.taskfile.specs.File.{taskOf}
+use Rattle.taskfile.proofs.Accepted as accepted-file
 use borrow.Author.Needs.{needs}
+use Rattle.reuse.specs.States.{firstReader, FirstReaders}
 use Rattle.reuse.proofs.Below.{one-more}
+use Rattle.reuse.proofs.Readers.{noted-within, noted-useful}
 use Rattle.reuse.proofs.useful_lines.Statement.{statement}
 use Rattle.reuse.proofs.useful_lines.Tie as tie
 
 abbrev Inv-loop : tie.InvT-loop
-Inv-loop file k cache count held lines₀ c₀ lines c = (c ≤ count) × ((d : ℕ) → members lines d ≡ (ltb d c && useful (taskOf file) k d))
+Inv-loop file k cache count held readers₀ lines₀ b₀ c₀ readers lines b c =
+    (c ≤ count) × (k ≤ b) × (b ≤ blockCount (taskOf file)) × (length readers ≡ 512) × FirstReaders (taskOf file) k b readers
+    × ((d : ℕ) → members lines d ≡ (ltb d c && useful (taskOf file) k d))
 
 abbrev μ-loop : tie.MeasureT-loop
-μ-loop file k cache count held lines₀ c₀ lines c = count - c
+μ-loop file k cache count held readers₀ lines₀ b₀ c₀ readers lines b c = count - c
 
 geometry-of-requires : tie.Need-geometry-of-requires Inv-loop μ-loop
 geometry-of-requires c κs = search needs
@@ -37,7 +44,17 @@ empty-requires : tie.Need-empty-requires Inv-loop μ-loop
 empty-requires c κs = search needs
 
 loop-holds : tie.Need-loop-holds Inv-loop μ-loop
-loop-holds c = (omega arith, λ d. c .empty .ensures d ∙ rw (le-ltb d 0 (omega arith)) refl)
+unfolding firstReader
+loop-holds c =
+    let start = c .before .before .before .before .before in
+    let none : start .args .k - start .args .k ≡ 0 = omega arith in (
+      omega arith,
+      omega arith,
+      start .pre .1,
+      refl,
+      λ d h. rw none (getD-replicate 512 d 0 0 h),
+      λ d. c .empty .ensures d ∙ rw (le-ltb d 0 (omega arith)) refl,
+    )
 
 mul-line : tie.Need-mul-line Inv-loop μ-loop
 mul-line c = omega arith
@@ -45,8 +62,35 @@ mul-line c = omega arith
 array-copy-out-line : tie.Need-array-copy-out-line Inv-loop μ-loop
 array-copy-out-line c = omega arith
 
+note-for-requires : tie.Need-note-for-requires Inv-loop μ-loop
+note-for-requires c κs =
+    let start = c .before .before .before .before .before .before .before .before .before in
+    let cache = c .before .before .before .before .before .before .before .geometry-of in
+    let l = c .before .before .before .loop in
+    ((l .inv .3, omega (arith, cache .ensures .sound .most)), (start .pre .0, l .inv .2, cache .ensures))
+
+array-read-is-reread : tie.Need-array-read-is-reread Inv-loop μ-loop
+array-read-is-reread c = omega (arith, c .before .before .before .before .before .before .before .before .geometry-of .ensures .sound .most)
+
+-- the block that is noted is one of the file
+within : (c : tie.After-note-for Inv-loop μ-loop)
+    → getD (c .note-for .last .0) (c .before .before .before .before .loop .c) 0 ≤ blockCount (taskOf (c .before .before .before .before .before .before .before .before .before .before .args .file .now))
+within c =
+    let start = c .before .before .before .before .before .before .before .before .before .before in
+    let l = c .before .before .before .before .loop in
+    let noted = c .note-for .ensures .0 in
+    noted-within (taskOf (start .args .file .now)) (l .c) (c .note-for .last .0) (omega (arith, l .inv .1, noted .from)) (noted .to) (array-read-is-reread c)
+    (noted .noted (start .args .k) (l .inv .1) (l .inv .4))
+
+cast-is-reread : tie.Need-cast-is-reread Inv-loop μ-loop
+cast-is-reread c =
+    let start = c .before .before .before .before .before .before .before .before .before .before in
+    omega (arith, within c, accepted-file.few-blocks (start .args .file .now) (start .pre .0))
+
 is-reread-requires : tie.Need-is-reread-requires Inv-loop μ-loop
-is-reread-requires c κs = search needs
+is-reread-requires c κs =
+    let start = c .before .before .before .before .before .before .before .before .before .before in
+    (start .pre .0, within c, c .before .before .before .before .before .before .before .before .geometry-of .ensures)
 
 with-marked-requires : tie.Need-with-marked-requires Inv-loop μ-loop
 with-marked-requires c κs = omega arith
@@ -58,20 +102,29 @@ loop-less : tie.Need-loop-less Inv-loop μ-loop
 loop-less c = omega arith
 
 loop-again : tie.Need-loop-again Inv-loop μ-loop
-unfolding useful
 loop-again c =
-    let l = c .before .before .before .before .loop in
-    let held = c .before .before .before .before .before .before in
-    let cache = held .before .before .geometry-of in
-    let start = held .before .before .before .before in
+    let l = c .before .before .before .before .before .before .loop in
+    let cache = c .before .before .before .before .before .before .before .before .before .before .geometry-of in
+    let start = c .before .before .before .before .before .before .before .before .before .before .before .before in
+    let held = c .before .before .before .before .before .before .before .before .held-after in
     let t = taskOf (start .args .file .now) in
-    let of = cache .ensures in
-    let here : c .before .is-reread .result ≡ useful t (start .args .k) (l .c) =
-    c .before .is-reread .ensures ∙ ap (λ (x : Line). sameBlock x (nextRead t (start .args .k) (l .c))) (held .held-after .ensures .1 (l .c) (omega (arith, of .sound .most))) in (
+    let k = start .args .k in
+    let note = c .before .before .note-for in
+    let noted = note .ensures .0 in
+    let from : k ≤ note .result = omega (arith, l .inv .1, noted .from) in
+    let below : l .c < 512 = omega (arith, cache .ensures .sound .most) in
+    let here : c .before .is-reread .result ≡ useful t k (l .c) =
+    c .before .is-reread .ensures ∙
+    noted-useful t (l .c) (note .last .0) from (noted .to) below (noted .noted k (l .inv .1) (l .inv .4)) (getD (held .result) (l .c) Empty) (held .ensures .1 (l .c) below)
+    (note .ensures .1) in (
       omega arith,
+      from,
+      noted .to,
+      noted .long,
+      noted .noted k (l .inv .1) (l .inv .4),
       λ d.
-          c .with-marked .ensures d ∙ ap (λ (x : Bool). x || eqb d (l .c) && c .before .is-reread .result) (l .inv .1 d) ∙
-          ap (λ (x : Bool). ltb d (l .c) && useful t (start .args .k) d || eqb d (l .c) && x) here ∙ one-more (useful t (start .args .k)) (l .c) d,
+          c .with-marked .ensures d ∙ ap (λ (x : Bool). x || eqb d (l .c) && c .before .is-reread .result) (l .inv .5 d) ∙
+          ap (λ (x : Bool). ltb d (l .c) && useful t k d || eqb d (l .c) && x) here ∙ one-more (useful t k) (l .c) d,
     )
 
 returns : tie.Need-returns Inv-loop μ-loop
@@ -82,7 +135,7 @@ returns c =
     let t = taskOf (start .args .file .now) in
     let of = cache .ensures in
     λ d.
-    l .inv .1 d ∙
+    l .inv .5 d ∙
     by-cases (decLt d (cache .result .«line_count»)) (λ h. rw (lt-ltb d (l .c) (omega arith)) refl)
     (λ h. rw (le-ltb d (l .c) (omega arith)) (sym (useful-beyond t (omega (arith, of .sound .some, of .count)) d (omega (arith, of .count)) (start .args .k))))
 
@@ -99,6 +152,9 @@ useful-lines-spec =
     loop-holds
     mul-line
     array-copy-out-line
+    note-for-requires
+    array-read-is-reread
+    cast-is-reread
     is-reread-requires
     with-marked-requires
     add-c

@@ -4,11 +4,14 @@
 # make release      the library, its header and how to link them, in one archive
 # make test-c       unpack the release, call it from C, and hold the stack of each call to what LINKING.txt says
 # make test-desk    prove the programs at the desk and hold what they print to documents 01 and 02
+# make test-front   run the script preempt under each shell at hand, and install, use and uninstall it in a directory of its own
 # make test-picture read the pictures of many files and hold them to what plan prints of each; SEED and COUNT may be given
 # make test-texts   hold the programs that read and write the text of a task to a reader and a writer of their own; SEED and COUNT may be given
 # make test-readme  run the examples of README.md and hold what they print to what it says
 # make opponent     compare the C calls with the independent implementation in tests/; SEED, COUNT and CASE may be given
 # make opponent-bugs  see that this comparison notices each wrong program that tests/ has
+# make install      the programs, the script preempt, the library, its header and the pages below PREFIX, /usr/local if it is not given; DESTDIR in front
+# make uninstall    remove what make install puts there
 # make bench        time the calls against plain Rust
 # make compare      OLD=DIR, a directory with an older libfirmware.a: see that its calls and today's answer alike, and time both in turns; SEED and
 #                   COUNT may be given, and WITH=probe if DIR has libprobe.a too and its calls have the arguments of today
@@ -26,11 +29,13 @@ PROGRAMS := $(addprefix target/bin/,$(DESK))
 NAME := preempt-$(VERSION)
 RELEASE := target/release/$(NAME)
 UNPACKED := target/test-c/$(NAME)
+PREFIX := /usr/local
+INSTALLED := $(DESTDIR)$(PREFIX)
 
 OPPONENT := PLANNER_LIB_DIR=$(CURDIR)/target/staticlib CARGO_TARGET_DIR=$(CURDIR)/target/opponent \
 	cargo run --release --offline --locked --quiet --manifest-path tests/Cargo.toml --
 
-.PHONY: lib parts example release test-c test-desk test-picture test-texts test-readme opponent opponent-bugs bench compare clean
+.PHONY: lib parts example release install uninstall test-c test-desk test-front test-picture test-texts test-readme opponent opponent-bugs bench compare clean
 .DELETE_ON_ERROR:
 # Two calls of rt at once would overwrite each other's notes in target/.
 .NOTPARALLEL:
@@ -69,6 +74,23 @@ $(RELEASE).tar.gz: $(LIB) include/preempt.h docs/LINKING.txt VERSION
 
 release: $(RELEASE).tar.gz
 
+install: $(LIB) $(PROGRAMS)
+	install -d "$(INSTALLED)/bin" "$(INSTALLED)/libexec/preempt" "$(INSTALLED)/lib/pkgconfig" "$(INSTALLED)/include" \
+		"$(INSTALLED)/share/man/man1" "$(INSTALLED)/share/doc/preempt"
+	install preempt "$(INSTALLED)/bin"
+	install $(PROGRAMS) "$(INSTALLED)/libexec/preempt"
+	install -m 644 $(LIB) "$(INSTALLED)/lib"
+	install -m 644 include/preempt.h "$(INSTALLED)/include"
+	install -m 644 docs/preempt.1 "$(INSTALLED)/share/man/man1"
+	install -m 644 README.md $(wildcard docs/*.txt docs/PROOF.md) "$(INSTALLED)/share/doc/preempt"
+	printf '%s\n' 'prefix=$(PREFIX)' 'Name: preempt' 'Description: the planner of preemption points' 'Version: $(VERSION)' \
+		'Cflags: -I$${prefix}/include' 'Libs: -L$${prefix}/lib -lfirmware' >"$(INSTALLED)/lib/pkgconfig/preempt.pc"
+
+uninstall:
+	rm -rf "$(INSTALLED)/libexec/preempt" "$(INSTALLED)/share/doc/preempt"
+	rm -f "$(INSTALLED)/bin/preempt" "$(INSTALLED)/lib/libfirmware.a" "$(INSTALLED)/lib/pkgconfig/preempt.pc" \
+		"$(INSTALLED)/include/preempt.h" "$(INSTALLED)/share/man/man1/preempt.1"
+
 test-c: $(RELEASE).tar.gz
 	rm -rf target/test-c
 	mkdir -p target/test-c
@@ -84,6 +106,9 @@ test-c: $(RELEASE).tar.gz
 
 test-desk: $(PROGRAMS)
 	tests/desk.sh $(DESK)
+
+test-front: $(LIB) $(PROGRAMS)
+	python3 tests/front.py $(DESK)
 
 test-picture: target/bin/plan target/bin/picture
 	python3 tests/picture.py $(SEED) $(COUNT)

@@ -436,6 +436,14 @@ usage useful 18446744073709551616
 usage replay x
 usage replay $(seq 70) 65536
 
+# these take no arguments
+usage plan $seven-60
+usage plan --help
+usage picture x
+usage lists x
+usage show x
+usage assemble x
+
 # a file from a seed is written whole and accepted: its refusals 1 to 5 would come before 7
 for numbers in '0 1 0 1 0 0' '7 16 3 256 20000 25' '4294967295 64 32 512 4294967295 4294967295'; do
     makes "$made" generate $numbers

@@ -107,11 +107,13 @@ fn main() -> ExitCode {
     }
     counts.print();
     println!("{} calls", driver.calls);
-    let missing = counts.missing();
-    if !missing.is_empty() && !tried {
-        println!("never came up: {}", missing.join("; "));
-        return ExitCode::FAILURE;
-    }
     println!("opponent: {count} files agree");
-    ExitCode::SUCCESS
+    let missing = counts.missing();
+    if missing.is_empty() || tried {
+        return ExitCode::SUCCESS;
+    }
+    let few = count < FILES;
+    let of = if few { " in so few files" } else { "" };
+    println!("did not come up{of}: {}", missing.join("; "));
+    ExitCode::from(!few as u8)
 }

@@ -25,11 +25,21 @@ fn print_file(text: &[u8]) {
     }
 }
 
+fn print_usage() {
+    desk::print_usage(
+        b"assemble < TEXT > FILE   TEXT: the text of a task, at most 262144 bytes; FILE: its task file",
+    );
+}
+
 fn main() {
+    if 0 < desk::argument_count() {
+        print_usage();
+        return;
+    }
     let mut text = text_buffer();
     let n = desk::read_input(&mut text);
     if MOST_BYTES < n {
-        desk::print_usage(b"assemble < TEXT > FILE, a text of at most 262144 bytes");
+        print_usage();
         return;
     }
     print_file(&text[..n]);

@@ -100,7 +100,9 @@ fn print_answer(answer: Answer) {
 }
 
 fn print_usage() {
-    desk::print_usage(b"deadlines HORIZON < SET");
+    desk::print_usage(
+        b"deadlines HORIZON < SET   HORIZON: ticks, 0 to 16777215; SET: a line of four numbers for each of 1 to 16 tasks, its execution time, period, deadline and longest region, in ticks; less than 65536 bytes",
+    );
 }
 
 // A text that fills the buffer may go on behind it, and is not looked at.

@@ -55,8 +55,8 @@ pub fn arguments(numbers: &mut [u64], most: u64) -> bool {
     os::arg_count() == i + 1
 }
 
-// How many points the arguments give.
-fn point_count() -> usize {
+// How many arguments the program was given.
+pub fn argument_count() -> usize {
     let count = os::arg_count();
     if count == 0 { 0 } else { count - 1 }
 }
@@ -66,7 +66,7 @@ fn point_count() -> usize {
 pub fn read_points(points: &mut [u16; 64]) -> Decimal
     ensures { λ r. ⌜ AtMost 64 r ⌝ }
 {
-    let count = point_count();
+    let count = argument_count();
     let mut i = 0;
     while i < count {
         let Decimal::Number(point) = argument(i + 1, 65535) else {

@@ -35,7 +35,9 @@ fn write_file(given: [u64; 6], file: &mut [u8]) {
 fn main() {
     let mut given = [0u64; 6];
     if !desk::arguments(&mut given, 4294967295) {
-        desk::print_usage(b"generate SEED N M S Q R");
+        desk::print_usage(
+            b"generate SEED N M S Q R > FILE   SEED: a number, the id too; N: basic blocks, 1 to 64; M: preempters, 0 to 32; S: cache lines, 1 to 512; Q: the limit in ticks; R: ticks of a reload; FILE: a task file; all below 4294967296",
+        );
         return;
     }
     let mut file = io::large_buffer();

@@ -27,7 +27,9 @@ fn write_joined(first: &[u8], second: &[u8], out: &mut [u8]) {
 
 fn main() {
     if os::arg_count() != 3 {
-        desk::print_usage(b"join FIRST SECOND");
+        desk::print_usage(
+            b"join FIRST SECOND > FILE   FIRST, SECOND: names of two task files; FILE: the task file of both",
+        );
         return;
     }
     let mut first = io::large_buffer();

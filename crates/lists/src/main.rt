@@ -51,6 +51,10 @@ fn print_answer(file: &[u8]) {
 }
 
 fn main() {
+    if 0 < desk::argument_count() {
+        desk::print_usage(b"lists < FILE   FILE: a task file of at most 16 basic blocks");
+        return;
+    }
     let mut file = io::large_buffer();
     let n = desk::read_input(&mut file);
     print_answer(&file[..n]);

@@ -29,7 +29,9 @@ fn print_answer(file: &[u8], line: usize, k: usize) {
 fn main() {
     let mut given = [0u64; 2];
     if !desk::arguments(&mut given, 0xffff_ffff_ffff_ffff) {
-        desk::print_usage(b"next_read LINE K < FILE");
+        desk::print_usage(
+            b"next_read LINE K < FILE   LINE: a cache line, from 0; K: an edge, 0 to N; FILE: a task file of N basic blocks",
+        );
         return;
     }
     let mut file = io::large_buffer();

@@ -286,6 +286,12 @@ fn draw_answer(file: &[u8]) {
 }
 
 fn main() {
+    if 0 < desk::argument_count() {
+        desk::print_usage(
+            b"picture < FILE > PICTURE   FILE: a task file; PICTURE: its plan as an SVG file",
+        );
+        return;
+    }
     let mut file = io::large_buffer();
     let n = desk::read_input(&mut file);
     draw_answer(&file[..n]);

@@ -32,6 +32,10 @@ fn print_answer(file: &[u8]) {
 }
 
 fn main() {
+    if 0 < desk::argument_count() {
+        desk::print_usage(b"plan < FILE   FILE: a task file");
+        return;
+    }
     let mut file = io::large_buffer();
     let n = desk::read_input(&mut file);
     print_answer(&file[..n]);

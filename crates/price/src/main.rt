@@ -39,7 +39,9 @@ fn print_answer(file: &[u8], points: &[u16; 64], count: usize) {
 fn main() {
     let mut points = [0u16; 64];
     let Decimal::Number(count) = desk::read_points(&mut points) else {
-        desk::print_usage(b"price POINT.. < FILE");
+        desk::print_usage(
+            b"price POINT.. < FILE   POINT: an edge, 1 to N - 1, each above the one before; FILE: a task file of N basic blocks",
+        );
         return;
     };
     let mut file = io::large_buffer();

@@ -2,6 +2,10 @@
 use model::Verdict;
 
 fn main() {
+    if 0 < desk::argument_count() {
+        desk::print_usage(b"show < FILE > TEXT   FILE: a task file; TEXT: the text of its task");
+        return;
+    }
     let mut file = io::large_buffer();
     let n = desk::read_input(&mut file);
     let mut text = [0u8; 135168];

@@ -63,7 +63,9 @@ fn write_file(scan: Scan, addresses: &[u32], settings: Settings) {
 fn main() {
     let mut given = [0u64; 7];
     if !desk::arguments(&mut given, 4294967295) {
-        desk::print_usage(b"trace SIZE G TICKS S Q R ID");
+        desk::print_usage(
+            b"trace SIZE G TICKS S Q R ID < TRACE > FILE   SIZE: bytes of a memory block, from 1; G: records of a basic block, 1 to 124; TICKS: ticks of a record; S: cache lines, 1 to 512; Q: the limit in ticks; R: ticks of a reload; ID: a number; TRACE: din lines; FILE: a task file; all below 4294967296",
+        );
         return;
     }
     let mut addresses = [0u32; tracing::ROOM];

@@ -21,7 +21,9 @@ fn print_answer(file: &[u8], k: usize) {
 fn main() {
     let mut given = [0u64; 1];
     if !desk::arguments(&mut given, 0xffff_ffff_ffff_ffff) {
-        desk::print_usage(b"useful K < FILE");
+        desk::print_usage(
+            b"useful K < FILE   K: an edge, 0 to N; FILE: a task file of N basic blocks",
+        );
         return;
     }
     let mut file = io::large_buffer();

@@ -13,8 +13,8 @@ Inv-loop points₀ count i₀ points i = i ≤ count
 abbrev μ-loop : tie.MeasureT-loop
 μ-loop points₀ count i₀ points i = count - i
 
-point-count-requires : tie.Need-point-count-requires Inv-loop μ-loop
-point-count-requires c κs = search needs
+argument-count-requires : tie.Need-argument-count-requires Inv-loop μ-loop
+argument-count-requires c κs = search needs
 
 loop-holds : tie.Need-loop-holds Inv-loop μ-loop
 loop-holds c = search needs
@@ -66,7 +66,7 @@ read-points-spec =
     (tie.spec
     Inv-loop
     μ-loop
-    point-count-requires
+    argument-count-requires
     loop-holds
     add-argument
     argument-requires

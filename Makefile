@@ -1,8 +1,10 @@
 # make, make lib    prove the planner and build its static library
 # make parts        that, the tests' library and the programs at the desk
 # make example      build the C example and hold what it prints on File Seven to its file 'expected'
-# make release      the library, its header and how to link them, in one archive
-# make test-c       unpack the release, call it from C, and hold the stack of each call to what LINKING.txt says
+# make release      the library, its header, how to link them, the format and the example, in one archive
+# make test-c       unpack the release, call it from C, build its example as LINKING.txt says, and hold the stack of each call to what preempt.h says
+# make test-format  hold docs/FORMAT.txt to the bytes that the C calls take and leave
+# make test-proof   hold docs/PROOF.md to the tree and to what the last checks said; every crate must have been checked
 # make test-desk    prove the programs at the desk and hold what they print to documents 01 and 02
 # make test-front   run the script preempt under each shell at hand, and install, use and uninstall it in a directory of its own
 # make test-picture read the pictures of many files and hold them to what plan prints of each; SEED and COUNT may be given
@@ -18,7 +20,9 @@
 # make clean        remove all that was built
 
 CC := gcc
-CFLAGS := -O2 -std=c11 -Wall -Wextra -Werror -pedantic -Wconversion
+CXX := g++
+STRICT := -O2 -Wall -Wextra -Werror -pedantic -Wconversion
+CFLAGS := -std=c11 $(STRICT)
 VERSION := $(shell cat VERSION)
 SOURCES := crates.txt $(shell find crates -name '*.rt' -o -name '*.antt')
 LIB := target/staticlib/libfirmware.a
@@ -29,13 +33,15 @@ PROGRAMS := $(addprefix target/bin/,$(DESK))
 NAME := preempt-$(VERSION)
 RELEASE := target/release/$(NAME)
 UNPACKED := target/test-c/$(NAME)
+EXAMPLE := $(addprefix examples/firmware/,main.c seven.bin expected)
 PREFIX := /usr/local
 INSTALLED := $(DESTDIR)$(PREFIX)
 
 OPPONENT := PLANNER_LIB_DIR=$(CURDIR)/target/staticlib CARGO_TARGET_DIR=$(CURDIR)/target/opponent \
 	cargo run --release --offline --locked --quiet --manifest-path tests/Cargo.toml --
 
-.PHONY: lib parts example release install uninstall test-c test-desk test-front test-picture test-texts test-readme opponent opponent-bugs bench compare clean
+.PHONY: lib parts example release install uninstall test-c test-format test-proof test-desk test-front test-picture test-texts test-readme opponent \
+	opponent-bugs bench compare clean
 .DELETE_ON_ERROR:
 # Two calls of rt at once would overwrite each other's notes in target/.
 .NOTPARALLEL:
@@ -60,16 +66,19 @@ target/example/firmware: examples/firmware/main.c include/preempt.h $(LIB)
 	mkdir -p $(@D)
 	$(CC) $(CFLAGS) -Iinclude $< $(LIB) -o $@
 
+# The plan in 'expected' is that of document 02, item 3, at Q 60. Without point 2 it is the list 1, which document 01 has refused; without point 1 its
+# regions are 40 and 50 long, and the second reloads line 0. tests/format.py computes all of it from the documents.
 example: target/example/firmware
 	$< examples/firmware/seven.bin >target/example/printed
 	diff examples/firmware/expected target/example/printed
 
-$(RELEASE).tar.gz: $(LIB) include/preempt.h docs/LINKING.txt VERSION
+$(RELEASE).tar.gz: $(LIB) include/preempt.h docs/LINKING.txt docs/FORMAT.txt VERSION $(EXAMPLE)
 	rm -rf $(RELEASE)
-	mkdir -p $(RELEASE)/lib $(RELEASE)/include
+	mkdir -p $(RELEASE)/lib $(RELEASE)/include $(RELEASE)/example
 	cp $(LIB) $(RELEASE)/lib
 	cp include/preempt.h $(RELEASE)/include
-	cp docs/LINKING.txt VERSION $(RELEASE)
+	cp $(EXAMPLE) $(RELEASE)/example
+	cp docs/LINKING.txt docs/FORMAT.txt VERSION $(RELEASE)
 	tar --sort=name --mtime=@0 --owner=0 --group=0 --numeric-owner -C target/release -czf $@ $(NAME)
 
 release: $(RELEASE).tar.gz
@@ -99,10 +108,25 @@ test-c: $(RELEASE).tar.gz
 	test "$$has" = 'preempt_plan preempt_price' || { echo "the archive exports: $$has"; exit 1; }
 	needs=$$(nm -u $(UNPACKED)/lib/libfirmware.a | sed -n 's/^ *U //p' | sort -u | xargs); \
 	grep -q "needs: $$needs$$" $(UNPACKED)/LINKING.txt || { echo "LINKING.txt does not say that the archive needs: $$needs"; exit 1; }
+	written=$$(size $(UNPACKED)/lib/libfirmware.a | awk 'NR > 1 { bytes += $$2 + $$3 } END { print bytes }'); \
+	test "$$written" = 0 || { echo "the archive has $$written bytes of data that is written to"; exit 1; }
+	cd $(UNPACKED) && sed -n 's/^  \$$ //p' LINKING.txt | sh -e | diff example/expected -
+	for language in '$(CC) -std=c99 -x c' '$(CXX) -std=c++17 -x c++'; do \
+		$$language $(STRICT) -I$(UNPACKED)/include $(UNPACKED)/example/main.c -x none $(UNPACKED)/lib/libfirmware.a -o target/test-c/example && \
+		target/test-c/example $(UNPACKED)/example/seven.bin | diff $(UNPACKED)/example/expected - || exit 1; \
+	done
 	$(CC) $(CFLAGS) -DRELEASED="\"$$(cat $(UNPACKED)/VERSION)\"" -I$(UNPACKED)/include tests/c/release.c $(UNPACKED)/lib/libfirmware.a -o target/test-c/release
 	target/test-c/release examples/firmware/seven.bin
 	$(CC) $(CFLAGS) -Wl,-z,now -I$(UNPACKED)/include tests/c/stack.c $(UNPACKED)/lib/libfirmware.a -o target/test-c/stack
-	target/test-c/stack "$$(sed -n 's/^ *stack: \([0-9]*\) bytes$$/\1/p' $(UNPACKED)/LINKING.txt)" examples/firmware/seven.bin
+	target/test-c/stack examples/firmware/seven.bin
+
+test-format: $(LIB)
+	mkdir -p target/test-format
+	$(CC) -shared -Wl,--whole-archive $(LIB) -Wl,--no-whole-archive -o target/test-format/libpreempt.so
+	python3 tests/format.py target/test-format/libpreempt.so
+
+test-proof:
+	python3 tests/proof_page.py
 
 test-desk: $(PROGRAMS)
 	tests/desk.sh $(DESK)

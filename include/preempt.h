@@ -1,4 +1,5 @@
-/* The planner of preemption points, for C99 and later and for C++. Link with libfirmware.a. */
+/* The planner of preemption points, for C99 and later and for C++, on x86-64 Linux. Link with libfirmware.a. FORMAT.txt has the bytes of task
+   files and of plan blocks. */
 #ifndef PREEMPT_H
 #define PREEMPT_H
 
@@ -9,7 +10,7 @@
 extern "C" {
 #endif
 
-#define PREEMPT_VERSION "1.0.0"
+#define PREEMPT_VERSION "1.1.0"
 
 #define PREEMPT_BLOCK_BYTES 512
 #define PREEMPT_FILE_BYTES_MOST 49664 /* a task file of 97 blocks */
@@ -17,13 +18,17 @@ extern "C" {
 /* preempt_price adds this to the place of what it refuses in `points` by 1, 2 or 5. */
 #define PREEMPT_POINTS_PLACE 97
 
-/* Where a plan block has its fields; the lowest byte of each comes first. */
-#define PREEMPT_PLAN_BLOCKS_AT 2  /* 2 bytes: basic blocks of the task */
-#define PREEMPT_PLAN_COUNT_AT 4   /* 2 bytes: points, at most 63 */
-#define PREEMPT_PLAN_LINES_AT 6   /* 2 bytes: lines reloaded */
-#define PREEMPT_PLAN_COST_AT 8    /* 8 bytes: ticks for these reloads and for the switch at each point */
-#define PREEMPT_PLAN_ID_AT 16     /* 4 bytes: the task's id */
-#define PREEMPT_PLAN_POINTS_AT 20 /* 2 bytes for each point, rising */
+/* Where a plan block has its fields; the lowest byte of each comes first, and all other bytes are 0. */
+#define PREEMPT_PLAN_KIND_AT 0       /* 1 byte: PREEMPT_PLAN_KIND */
+#define PREEMPT_PLAN_BLOCKS_AT 2     /* 2 bytes: basic blocks of the task */
+#define PREEMPT_PLAN_COUNT_AT 4      /* 2 bytes: points, at most 63 */
+#define PREEMPT_PLAN_LINES_AT 6      /* 2 bytes: lines reloaded */
+#define PREEMPT_PLAN_COST_AT 8       /* 8 bytes: ticks for these reloads and for the switch at each point */
+#define PREEMPT_PLAN_ID_AT 16        /* 4 bytes: the task's id */
+#define PREEMPT_PLAN_POINTS_AT 20    /* 2 bytes for each point, rising */
+#define PREEMPT_PLAN_NUMBER_AT 504   /* 4 bytes: the block's number, 0 */
+#define PREEMPT_PLAN_CHECKSUM_AT 508 /* 4 bytes: 32-bit FNV-1a over bytes 0 to 507 */
+#define PREEMPT_PLAN_KIND 4
 
 /* Both calls return 0, or the number of a refusal times 65536 plus its place. */
 #define PREEMPT_NUMBER(returned) ((returned) >> 16)
@@ -48,8 +53,9 @@ enum preempt_number {
 /* What a caller owes, in both calls:
    - Each pointer leads to as many bytes as the length behind it says. Where a length is 0 the pointer may be NULL.
    - No two of the buffers have a byte in common, and nothing else writes to them during the call.
-   Any bytes and any lengths are answered. `block` is written only where 0 is returned, and then wholly; `file` and `points` never
-   are. Nothing is kept between calls. */
+   Any bytes and any lengths are answered, and the buffers may begin at any address. `block` is written only where 0 is returned, and then
+   wholly; `file` and `points` never are. Nothing is kept between calls, allocated or shared, so any thread may call, and several at once. */
+#define PREEMPT_STACK_BYTES 12288 /* this much stack is enough for either call, and for memcpy and memset within it */
 
 /* Plans the task file and leaves the plan in `block`: of the lists of points that fit and cost least, that of the first in lexicographic
    order, where a list comes before any longer one that starts with it. So a file has one plan, and its bytes are the same on every host. */

@@ -1,6 +1,6 @@
 # texts.py [SEED [COUNT]]: feeds texts of tasks to assemble and task files to show, and says where one of them answers something else than the
 # reader and writer of texts and of files below. Fixed cases first, then COUNT random tasks, whose texts and files are damaged too.
-# Everything here is computed from README.md, and nothing from the programs.
+# Everything here is computed from README.md and docs/FORMAT.txt, and nothing from the programs.
 import os
 import random
 import re

@@ -1,5 +1,6 @@
 /* Calls the archive of a release: `release FILE` plans File Seven and prices the plan's points, which must give the same block, plans it
-   once more at Q 40, and tries the refusals that need no file. RELEASED is what VERSION says. It prints what went wrong; status 1 if anything did. */
+   once more at Q 40, there with the buffers at eight addresses in turn, and tries the refusals that need no file. RELEASED is what VERSION
+   says. It prints what went wrong; status 1 if anything did. */
 #include <preempt.h>
 #include <stdio.h>
 #include <string.h>
@@ -26,6 +27,19 @@ static void set_limit(uint8_t *file, uint32_t limit) {
         checksum = (checksum ^ file[i]) * 16777619u;
     for (int i = 0; i < 4; i++)
         file[508 + i] = (uint8_t)(checksum >> (8 * i));
+}
+
+/* Planning, and pricing what was planned, leave the block `planned` wherever the buffers begin. */
+static void hold_addresses(const uint8_t *file, size_t len, const uint8_t *planned) {
+    static uint8_t moved[PREEMPT_FILE_BYTES_MOST + 8], points[PREEMPT_BLOCK_BYTES + 8], priced[PREEMPT_BLOCK_BYTES + 8];
+    for (size_t by = 0; by < 8; by++) {
+        memcpy(moved + by, file, len);
+        hold(preempt_plan(moved + by, len, points + 7 - by, PREEMPT_BLOCK_BYTES) == PREEMPT_OK, "planning at another address");
+        hold(memcmp(planned, points + 7 - by, PREEMPT_BLOCK_BYTES) == 0, "the address makes a difference to planning");
+        hold(preempt_price(moved + by, len, points + 7 - by, PREEMPT_BLOCK_BYTES, priced + by, PREEMPT_BLOCK_BYTES) == PREEMPT_OK,
+             "pricing at another address");
+        hold(memcmp(planned, priced + by, PREEMPT_BLOCK_BYTES) == 0, "the address makes a difference to pricing");
+    }
 }
 
 int main(int argc, char **argv) {
@@ -67,5 +81,6 @@ int main(int argc, char **argv) {
     hold(memcmp(planned + PREEMPT_PLAN_POINTS_AT, points_1_2_3, sizeof points_1_2_3) == 0, "not the points 1, 2, 3 at Q 40");
     hold(preempt_plan(file, len, before, sizeof before) == PREEMPT_OK, "planning the file at Q 40 once more");
     hold(memcmp(planned, before, sizeof planned) == 0, "two plans of one file differ");
+    hold_addresses(file, len, planned);
     return wrong;
 }

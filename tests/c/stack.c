@@ -1,11 +1,10 @@
-/* Measures the stack of each call: `stack MOST FILE` paints a stack, makes a call on it and looks how far down the paint is gone. It
+/* Measures the stack of each call: `stack FILE` paints a stack, makes a call on it and looks how far down the paint is gone. It
    takes File Seven (FILE), a largest file and one input for each refusal, and prints the bytes of each call; status 1 if one of them took more
-   than MOST bytes. The return address counts, and what memcpy and memset take; what a dynamic linker takes to find these does not, so link
-   with -z now. */
+   than PREEMPT_STACK_BYTES. The return address counts, and what memcpy and memset take; what a dynamic linker takes to find these does not, so
+   link with -z now. */
 #define _XOPEN_SOURCE 700
 #include <preempt.h>
 #include <stdio.h>
-#include <stdlib.h>
 #include <string.h>
 #include <ucontext.h>
 
@@ -13,7 +12,6 @@ enum { BLOCK = PREEMPT_BLOCK_BYTES, STACK_WORDS = 1 << 15, N_MOST = 64, M_MOST =
 
 static _Alignas(16) uint64_t stack[STACK_WORDS];
 static ucontext_t caller, callee;
-static unsigned long most;
 static int wrong;
 
 /* What the next call is given, and what it returned. */
@@ -59,10 +57,10 @@ static size_t depth(void (*call)(void)) {
 /* Makes a call that must return `number`, and holds its stack to the limit. What is on the stack without a call does not count. */
 static void hold(const char *name, void (*call)(void), const char *input, uint32_t number) {
     size_t bytes = depth(call) - depth(nothing);
-    printf("stack: %-5s %-36s %6zu bytes%s\n", name, input, bytes, bytes > most ? ", too many" : "");
+    printf("stack: %-5s %-36s %6zu bytes%s\n", name, input, bytes, bytes > PREEMPT_STACK_BYTES ? ", too many" : "");
     if (PREEMPT_NUMBER(returned) != number)
         printf("stack: that returned %u\n", (unsigned)PREEMPT_NUMBER(returned));
-    wrong |= bytes > most || PREEMPT_NUMBER(returned) != number;
+    wrong |= bytes > PREEMPT_STACK_BYTES || PREEMPT_NUMBER(returned) != number;
 }
 
 static void put(uint8_t *at, uint32_t value, int bytes) {
@@ -151,10 +149,9 @@ static void hold_refusals(const uint8_t *largest, const uint8_t *planned) {
 
 int main(int argc, char **argv) {
     static uint8_t largest[PREEMPT_FILE_BYTES_MOST], seven[PREEMPT_FILE_BYTES_MOST], planned[BLOCK];
-    FILE *from = argc == 3 ? fopen(argv[2], "rb") : NULL;
-    most = argc == 3 ? strtoul(argv[1], NULL, 10) : 0;
-    if (!from || !most) {
-        printf("usage: stack MOST FILE\n");
+    FILE *from = argc == 2 ? fopen(argv[1], "rb") : NULL;
+    if (!from) {
+        printf("usage: stack FILE\n");
         return 2;
     }
     size_t seven_len = fread(seven, 1, sizeof seven, from);

@@ -12,5 +12,6 @@ pub mod join;
 pub mod regions;
 pub mod replays;
 pub mod searches;
+pub mod text;
 pub mod timing;
 pub mod trace;

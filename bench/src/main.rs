@@ -9,7 +9,7 @@ use bench::files::{
     any, any_points, drawn, growing, planned, reread, rotated, seven, Again, Rng, Shape, LARGEST,
 };
 use bench::timing::{keep, medians};
-use bench::{charges, deadlines, fast, generate, join, regions, replays, searches, trace};
+use bench::{charges, deadlines, fast, generate, join, regions, replays, searches, text, trace};
 use calls::{Returned, TaskRecord};
 use std::hint::black_box;
 
@@ -494,6 +494,57 @@ fn trace_row(name: &str, count: usize, bits: u32, g: u32) {
     say("trace", traced[0], &[("plain", traced[1])]);
 }
 
+/// The texts of files, and these texts made files again.
+fn text_rows(name: &str, files: &[Vec<u8>]) {
+    let mut texts = [(); 2].map(|_| vec![0; 135168]);
+    let mut made = [(); 2].map(|_| vec![0xFF; 49664]);
+    let [ours, plain] = black_box(&mut texts);
+    let [our_file, plain_file] = black_box(&mut made);
+    let mut shown = Vec::new();
+    for file in files {
+        let answers = [calls::show(file, ours), text::show(file, plain)];
+        assert!(answers[0].1 == answers[1].1, "{name}: lengths differ");
+        hold_alike(name, &[(answers[0].0, &*ours), (answers[1].0, &*plain)]);
+        shown.push(ours[..answers[0].1].to_vec());
+        let text = shown.last().unwrap();
+        let answers = [
+            calls::assemble(text, our_file),
+            text::assemble(text, plain_file),
+        ];
+        assert!(
+            answers.map(|answer| answer.1) == [file.len(); 2],
+            "{name}: lengths differ"
+        );
+        hold_alike(
+            name,
+            &[(answers[0].0, &*our_file), (answers[1].0, &*plain_file)],
+        );
+        assert!(our_file[..file.len()] == **file, "{name}: another file");
+    }
+    println!(
+        "{name}: {}, texts of {} bytes",
+        blocks_of(files),
+        shown[0].len()
+    );
+    let show = medians(
+        ROUNDS,
+        files.len(),
+        [&mut |i| keep(calls::show(&files[i], ours).0), &mut |i| {
+            keep(text::show(&files[i], plain).0)
+        }],
+    );
+    say("show", show[0], &[("plain", show[1])]);
+    let assemble = medians(
+        ROUNDS,
+        files.len(),
+        [
+            &mut |i| keep(calls::assemble(&shown[i], our_file).0),
+            &mut |i| keep(text::assemble(&shown[i], plain_file).0),
+        ],
+    );
+    say("make", assemble[0], &[("plain", assemble[1])]);
+}
+
 /// The deadlines of a task set, up to a horizon.
 fn deadlines_row(name: &str, tasks: &[TaskRecord], horizon: u32, rounds: usize) {
     let found = [
@@ -628,6 +679,8 @@ fn main() {
     trace_row("the largest trace", 7936, 32, 124);
     trace_row("the largest trace, short addresses", 7936, 16, 124);
     trace_row("a trace of ten lines", 10, 32, 4);
+    text_rows("the text of the largest file", &largest);
+    text_rows("the text of File Seven", &seven);
     println!(
         "deadlines of a task set; plain: from instant to instant, over the records as they lie"
     );

@@ -1,6 +1,6 @@
 // For tests: the useful lines of an edge, the next read of a line, the loaded lines and the length of a region, the charges of a list and of a plan,
-// the misses of a replay, files from a seed, joined files, files from a trace, the next fitting list and the deadlines of a task set, through the public
-// calls. Each call returns the number of its refusal and leaves the place, 0 and 0 where it accepts.
+// the misses of a replay, files from a seed, joined files, files from a trace, texts of files and files of texts, the next fitting list and the deadlines of a
+// task set, through the public calls. Each call returns the number of its refusal and leaves the place, 0 and 0 where it accepts.
 // A set is left as its eight words; every number takes eight bytes, the lowest first.
 ghost use mathlib.Core.List.{[], _∷_, _++_};
 ghost use mathlib.Core.Path.{_≡_};
@@ -13,6 +13,8 @@ ghost use Rattle.replaying.specs.Calls.{replayVerdict, missesAloneOf, missesWit
 ghost use Rattle.testload.specs.Calls.{generateVerdict, generated};
 ghost use Rattle.joining.specs.Calls.{joinVerdict, joinPlace, joinLeft};
 ghost use Rattle.tracing.specs.Calls.{traceAnswer, traceOutput};
+ghost use Rattle.showing.specs.Calls.{showAnswer, showOutput};
+ghost use Rattle.assembling.specs.Calls.{assembleAnswer, assembleOutput};
 ghost use Rattle.listing.specs.Calls.{listVerdict, nextOf, nextPoints, inArray};
 ghost use Rattle.demand.specs.Calls.{answer as answerTo};
 ghost use Rattle.probe.specs.Calls.{probed, left, nextNumbers, PlanLeft, settingsOf, listNumbers, deadlinesNumbers, DeadlinesLeft};
@@ -189,6 +191,46 @@ pub extern "C" fn probe_trace(
     let traced = tracing::trace(text, settings, out);
     let verdict = traced.verdict;
     *length = traced.length;
+    *place = answers::verdict_place(verdict);
+    answers::verdict_number(verdict)
+}
+
+// The text of a task file, and its length.
+#[no_mangle]
+pub extern "C" fn probe_show(
+    file: &[u8],
+    out: &mut [u8],
+    length: &mut usize,
+    place: &mut usize,
+) -> u32
+    ensures { λ r. ⌜ r ≡ verdictNumber (showAnswer (now (file .entry)) (now (out .entry)) .verdict) ⌝ }
+    ensures { λ _. ⌜ now (place .exit) ≡ verdictPlace (showAnswer (now (file .entry)) (now (out .entry)) .verdict) ⌝ }
+    ensures { λ _. ⌜ now (length .exit) ≡ showAnswer (now (file .entry)) (now (out .entry)) .length ⌝ }
+    ensures { λ _. ⌜ now (out .exit) ≡ showOutput (now (file .entry)) (now (out .entry)) ⌝ }
+{
+    let shown = showing::show(file, out);
+    let verdict = shown.verdict;
+    *length = shown.length;
+    *place = answers::verdict_place(verdict);
+    answers::verdict_number(verdict)
+}
+
+// The task file of a text, and its length.
+#[no_mangle]
+pub extern "C" fn probe_assemble(
+    text: &[u8],
+    out: &mut [u8],
+    length: &mut usize,
+    place: &mut usize,
+) -> u32
+    ensures { λ r. ⌜ r ≡ verdictNumber (assembleAnswer (now (text .entry)) (now (out .entry)) .verdict) ⌝ }
+    ensures { λ _. ⌜ now (place .exit) ≡ verdictPlace (assembleAnswer (now (text .entry)) (now (out .entry)) .verdict) ⌝ }
+    ensures { λ _. ⌜ now (length .exit) ≡ assembleAnswer (now (text .entry)) (now (out .entry)) .length ⌝ }
+    ensures { λ _. ⌜ now (out .exit) ≡ assembleOutput (now (text .entry)) (now (out .entry)) ⌝ }
+{
+    let made = assembling::assemble(text, out);
+    let verdict = made.verdict;
+    *length = made.length;
     *place = answers::verdict_place(verdict);
     answers::verdict_number(verdict)
 }

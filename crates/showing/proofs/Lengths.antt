@@ -1,4 +1,4 @@
--- A text is short: a number has at most ten digits, and so a line at most 1385 bytes, of which an accepted file has at most 103.
+-- A text is short: a number has at most ten digits, and so a line of k numbers at most 10 + 11 * k bytes, which is 1385 for each of at most 96 blocks.
 -- Assumes nothing.
 use Prim.Native.Nat.{ℕ, zero, suc, _+_, _*_, _/_, _%_, _≤_}
 use mathlib.Core.Path.{_≡_}
@@ -32,24 +32,24 @@ unfolding spaced
 spaced-most [] = omega arith
 spaced-most (n ∷ ns) = omega (arith, length-append (spelled n) (spaced ns), few-digits 10 n, spaced-most ns)
 
-line-most : (word ns : List ℕ) → length word ≤ 9 → length ns ≤ 125 → length (lineText word ns) ≤ 1385
+line-most : (k : ℕ) (word ns : List ℕ) → length word ≤ 9 → length ns ≤ k → length (lineText word ns) ≤ 10 + 11 * k
 unfolding lineText
-line-most word ns w h =
+line-most k word ns w h =
     omega (arith, length-append word (spaced ns ++ (lineFeed ∷ [])), length-append (spaced ns) (lineFeed ∷ []), spaced-most ns)
 
-header-most : (h : Header) → length (headerText h) ≤ 7 * 1385
+header-most : (h : Header) → length (headerText h) ≤ 224
 header-most h =
     omega (
       arith,
       limits-length h,
       header-length h,
-      line-most taskWord (h .id ∷ []) (omega arith) (omega arith),
-      line-most linesWord (h .«line_count» ∷ []) (omega arith) (omega arith),
-      line-most limitWord (h .limit ∷ []) (omega arith) (omega arith),
-      line-most samplerWord (h .«second_limit» ∷ []) (omega arith) (omega arith),
-      line-most reloadWord (h .reload ∷ []) (omega arith) (omega arith),
-      line-most switchWord (h .switch ∷ []) (omega arith) (omega arith),
-      line-most scratchWord (h .scratch .first ∷ h .scratch .count ∷ []) (omega arith) (omega arith),
+      line-most 2 taskWord (h .id ∷ []) (omega arith) (omega arith),
+      line-most 2 linesWord (h .«line_count» ∷ []) (omega arith) (omega arith),
+      line-most 2 limitWord (h .limit ∷ []) (omega arith) (omega arith),
+      line-most 2 samplerWord (h .«second_limit» ∷ []) (omega arith) (omega arith),
+      line-most 2 reloadWord (h .reload ∷ []) (omega arith) (omega arith),
+      line-most 2 switchWord (h .switch ∷ []) (omega arith) (omega arith),
+      line-most 2 scratchWord (h .scratch .first ∷ h .scratch .count ∷ []) (omega arith) (omega arith),
     )
 
 word-most : (armed : Bool) → length (cond armed armedWord blockWord) ≤ 9
@@ -62,7 +62,7 @@ blocks-most [] e = omega arith
 blocks-most (b ∷ bs) e =
     let few = e .0 .count in
     let word = cond (b .armed) armedWord blockWord in
-    let line = line-most word (b .time ∷ b .reads) (word-most (b .armed)) (omega arith) in
+    let line = line-most 125 word (b .time ∷ b .reads) (word-most (b .armed)) (omega arith) in
     omega (arith, length-append (lineText word (b .time ∷ b .reads)) (blocksText bs), line, blocks-most bs (e .1))
 
 preempters-most : (ps : List Preempter) → Each (λ p. EntryWithin (p .id) (p .reads)) ps → length (preemptersText ps) ≤ 1385 * length ps
@@ -70,16 +70,19 @@ unfolding preemptersText preempterText Each
 preempters-most [] e = omega arith
 preempters-most (p ∷ ps) e =
     let few = e .0 .count in
-    let line = line-most preempterWord (p .id ∷ p .reads) (omega arith) (omega arith) in
+    let line = line-most 125 preempterWord (p .id ∷ p .reads) (omega arith) (omega arith) in
     omega (arith, length-append (lineText preempterWord (p .id ∷ p .reads)) (preemptersText ps), line, preempters-most ps (e .1))
 
 pub text-length : (t : Task) → length (textOf t) ≡ length (headerText (t .header)) + (length (blocksText (t .blocks)) + length (preemptersText (t .preempters)))
 unfolding textOf
 text-length t = simp length-append
 
-pub text-room : (file : List ℕ) → IsAccepted file → Room 0 (textOf (taskOf file))
-text-room file h =
+pub text-most : (file : List ℕ) → IsAccepted file → length (textOf (taskOf file)) ≤ 133184
+text-most file h =
     let t = taskOf file in
     let a = accepted file h in
     let w = accepted-within file h in
     omega (arith, text-length t, header-most (t .header), blocks-most (t .blocks) (w .blocks), preempters-most (t .preempters) (w .preempters), block-count file, preempter-count file, a .blocks-most, a .preempters-most)
+
+pub text-room : (file : List ℕ) → IsAccepted file → Room 0 (textOf (taskOf file))
+text-room file h = omega (arith, text-most file h)

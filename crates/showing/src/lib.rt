@@ -2,6 +2,7 @@
 ghost use mathlib.Core.Path.{_≡_};
 ghost use mathlib.Core.List.{[], _∷_, _++_};
 ghost use Prim.Native.Nat.{_+_, _<_, _≤_};
+ghost use lib.Dec.{leb};
 ghost use lib.ListN.{length, getD};
 ghost use Rattle.model.specs.Task.{blockCount, preempterCount, noPreempter};
 ghost use Rattle.model.specs.Lines.{blockAt};
@@ -223,6 +224,17 @@ fn text_length(file: &[u8]) -> usize
     put_text(&mut none, file)
 }
 
+// Whether the text of a file fits into so many bytes. No text is longer than 133,184, so that it is measured only where there is less room.
+fn has_room(file: &[u8], room: usize) -> bool
+    requires { ⌜ IsAccepted (now file) ⌝ }
+    ensures { λ r. ⌜ r ≡ leb (length (shownText (now (file .entry)))) room ⌝ }
+{
+    if 133184 <= room {
+        return true;
+    }
+    text_length(file) <= room
+}
+
 // The answer to a file and an output of this length: 1 to 5, and 9.
 fn check(file: &[u8], room: usize) -> Verdict
     ensures { λ r. ⌜ r ≡ andThen (verdict (now (file .entry))) (roomRow (length (shownText (now (file .entry)))) room) ⌝ }
@@ -230,7 +242,7 @@ fn check(file: &[u8], room: usize) -> Verdict
     let verdict = taskfile::check(file);
     match verdict {
         Verdict::Accepted => {
-            if text_length(file) <= room {
+            if has_room(file, room) {
                 Verdict::Accepted
             } else {
                 Verdict::Refused(Refusal::Output)

@@ -145,6 +145,24 @@ mod linked {
             length: *mut usize,
             place: *mut usize,
         ) -> u32;
+        #[cfg_attr(old, link_name = "old_probe_show")]
+        pub fn probe_show(
+            file: *const u8,
+            len: usize,
+            out: *mut u8,
+            out_len: usize,
+            length: *mut usize,
+            place: *mut usize,
+        ) -> u32;
+        #[cfg_attr(old, link_name = "old_probe_assemble")]
+        pub fn probe_assemble(
+            text: *const u8,
+            len: usize,
+            out: *mut u8,
+            out_len: usize,
+            length: *mut usize,
+            place: *mut usize,
+        ) -> u32;
         #[cfg_attr(old, link_name = "old_probe_deadlines")]
         pub fn probe_deadlines(
             tasks: *const TaskRecord,
@@ -314,6 +332,26 @@ pub fn trace(text: &[u8], numbers: [u32; 7], out: &mut [u8]) -> (Returned, usize
             &mut length,
             place,
         )
+    });
+    (returned, length)
+}
+
+/// The text of a task file, and the length that is answered.
+pub fn show(file: &[u8], out: &mut [u8]) -> (Returned, usize) {
+    let mut length = usize::MAX;
+    let (at, len) = (out.as_mut_ptr(), out.len());
+    let returned = probe(|place| unsafe {
+        linked::probe_show(file.as_ptr(), file.len(), at, len, &mut length, place)
+    });
+    (returned, length)
+}
+
+/// The task file of a text, and the length that is answered.
+pub fn assemble(text: &[u8], out: &mut [u8]) -> (Returned, usize) {
+    let mut length = usize::MAX;
+    let (at, len) = (out.as_mut_ptr(), out.len());
+    let returned = probe(|place| unsafe {
+        linked::probe_assemble(text.as_ptr(), text.len(), at, len, &mut length, place)
     });
     (returned, length)
 }

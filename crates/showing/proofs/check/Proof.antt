@@ -1,7 +1,6 @@
 -- `showing::check` meets its contract: the file's refusal, and then the output's. Assumes nothing.
 use borrow.Author.Needs.{needs}
 use mathlib.Core.Path.{refl, sym, _∙_}
-use borrow.Author.Tests.{le-leb, lt-leb}
 use Rattle.showing.specs.Calls.{roomRow}
 use Rattle.showing.proofs.check.Statement.{statement}
 use Rattle.showing.proofs.check.Tie as tie
@@ -12,8 +11,8 @@ check-requires c κs = search needs
 enum-told : tie.Need-enum-told
 enum-told c = search needs
 
-text-length-requires : tie.Need-text-length-requires
-text-length-requires c κs = sym (c .before .before .check .ensures) ∙ c .enum-told .given .1
+has-room-requires : tie.Need-has-room-requires
+has-room-requires c κs = sym (c .before .before .check .ensures) ∙ c .enum-told .given .1
 
 enum-told-2 : tie.Need-enum-told-2
 enum-told-2 c = search needs
@@ -22,13 +21,13 @@ returns : tie.Need-returns
 unfolding roomRow
 returns c =
     let file = sym (c .before .before .before .before .check .ensures) ∙ c .before .before .enum-told .given .1 in
-    rw (file, le-leb _ _ (rw (c .before .text-length .ensures) at (c .if1 .taken))) refl
+    rw (file, ← c .before .has-room .ensures, c .if1 .taken) refl
 
 returns-2 : tie.Need-returns-2
 unfolding roomRow
 returns-2 c =
     let file = sym (c .before .before .before .before .check .ensures) ∙ c .before .before .enum-told .given .1 in
-    rw (file, lt-leb _ _ (rw (c .before .text-length .ensures) at (c .if1 .left))) refl
+    rw (file, ← c .before .has-room .ensures, c .if1 .left) refl
 
 returns-3 : tie.Need-returns-3
 returns-3 c =
@@ -41,7 +40,7 @@ check-spec =
     (tie.spec
     check-requires
     enum-told
-    text-length-requires
+    has-room-requires
     enum-told-2
     returns
     returns-2

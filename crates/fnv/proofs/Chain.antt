@@ -6,10 +6,11 @@ use mathlib.Core.List.{List, [], _∷_, _++_}
 use native.Mathlib.Nat.{add-sub-cancel-left}
 use native.Mathlib.Numerals.{add-one}
 use native.Mathlib.Omega.{arith}
-use lib.ListN.{length, getD, take, drop, take-append-drop}
+use lib.ListN.{length, getD, take, drop, replicate, take-append-drop}
 use lib.Seq.{drop-cons, drop-length, drop-drop}
 use Rattle.fnv.specs.Fnv.{step, hashFrom}
 use Rattle.fnv.specs.Steps.{Reached}
+use Rattle.fnv.proofs.Zeros.{all-zero}
 
 pub chain-start : (from : ℕ) (bytes : List ℕ) → Reached from bytes 0 from
 chain-start from bytes = record { within = omega arith; on = refl }
@@ -40,6 +41,11 @@ chain-part {from} {bytes} {i} {state} n next r e h =
 pub chain-word : {from : ℕ} {bytes : List ℕ} {i state next : ℕ} → Reached from bytes i state → next ≡ hashFrom state (take (i + 8 - i) (drop i bytes)) → i + 8 ≤ length bytes
     → Reached from bytes (i + 8) next
 chain-word {from} {bytes} {i} {state} {next} r e h = chain-part 8 next r (rw (add-sub-cancel-left i 8) at e) h
+
+-- a word of zeros
+pub chain-zeros : {from : ℕ} {bytes : List ℕ} {i state next : ℕ} → Reached from bytes i state → next ≡ hashFrom state (replicate 8 0) → i + 8 ≤ length bytes
+    → ((j : ℕ) → j < 8 → getD bytes (i + j) 0 ≡ 0) → Reached from bytes (i + 8) next
+chain-zeros {from} {bytes} {i} {state} {next} r e h zeros = chain-part 8 next r (rw (all-zero 8 bytes i h zeros) e) h
 
 pub chain-end : {from : ℕ} {bytes : List ℕ} {i state : ℕ} → Reached from bytes i state → i ≡ length bytes → state ≡ hashFrom from bytes
 unfolding hashFrom

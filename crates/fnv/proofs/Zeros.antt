@@ -1,14 +1,14 @@
 -- Zeros: each is a product with 16777619, and bytes whose number is 0 are all 0. Assumes nothing.
-use Prim.Native.Nat.{ℕ, zero, suc, _+_, _-_, _*_, _/_, _%_, _^_, _<_}
+use Prim.Native.Nat.{ℕ, zero, suc, _+_, _-_, _*_, _/_, _%_, _^_, _<_, _≤_}
 use mathlib.Core.Path.{_≡_, refl, sym, subst, ap, ap₂, _∙_}
 use mathlib.Core.Bool.{Bool, true, false}
 use mathlib.Core.List.{List, _∷_}
 use native.Mathlib.Nat.{add-zero, mul-one, mul-assoc, mul-comm, div-add-mod', mul-add-mod-self-right, mod-eq-of-lt, pow-suc}
 use native.Mathlib.Omega.{arith}
-use lib.Bits.{bitXor, xor-zero-r}
+use lib.Bits.{bitOr, bitXor, xor-zero-r, or-add-and, and-le-l, and-le-r}
 use lib.Dec.{ltb}
-use lib.ListN.{length, getD, drop, replicate}
-use lib.Seq.{drop-cons, drop-length}
+use lib.ListN.{length, getD, take, drop, replicate}
+use lib.Seq.{drop-cons}
 use borrow.Author.Tests.{ltb-true, ltb-false}
 use Rattle.fnv.specs.Fnv.{step, hashFrom}
 use Rattle.fnv.specs.Steps.{ZeroIf}
@@ -51,10 +51,20 @@ twice-zero n bytes at low high number lows highs no-low no-high none j h = go (l
         let later = ltb-false j n e in
         subst (λ (i : ℕ). getD bytes i 0 ≡ 0) (omega arith) (highs (no-high none) (j - n) (omega arith))
 
--- all bytes from a place on
-pub all-zero : (n : ℕ) (bytes : List ℕ) (at : ℕ) → at + n ≡ length bytes → ((j : ℕ) → j < n → getD bytes (at + j) 0 ≡ 0) → drop at bytes ≡ replicate n 0
-all-zero zero bytes at long zeros = rw (sym (add-zero at) ∙ long) (drop-length bytes)
+or-zero : (a b : ℕ) → bitOr a b ≡ 0 → (a ≡ 0) × (b ≡ 0)
+or-zero a b none = omega (arith, or-add-and a b, and-le-l a b, and-le-r a b)
+
+pub or-four-zero : (a b c d : ℕ) → bitOr (bitOr (bitOr a b) c) d ≡ 0 → (a ≡ 0) × (b ≡ 0) × (c ≡ 0) × (d ≡ 0)
+or-four-zero a b c d none =
+    let three = or-zero (bitOr (bitOr a b) c) d none in
+    let two = or-zero (bitOr a b) c (three .0) in
+    let one = or-zero a b (two .0) in
+    (one .0, one .1, two .1, three .1)
+
+-- all of n bytes from a place on
+pub all-zero : (n : ℕ) (bytes : List ℕ) (at : ℕ) → at + n ≤ length bytes → ((j : ℕ) → j < n → getD bytes (at + j) 0 ≡ 0) → take n (drop at bytes) ≡ replicate n 0
+all-zero zero bytes at long zeros = refl
 all-zero (suc n) bytes at long zeros =
-    drop-cons bytes at 0 (omega arith) ∙
+    ap (take (suc n)) (drop-cons bytes at 0 (omega arith)) ∙
     ap₂ (λ (x : ℕ) (xs : List ℕ). x ∷ xs) (subst (λ (i : ℕ). getD bytes i 0 ≡ 0) (add-zero at) (zeros 0 (omega arith)))
     (all-zero n bytes (suc at) (omega arith) (λ j h. subst (λ (i : ℕ). getD bytes i 0 ≡ 0) (omega arith) (zeros (suc j) (omega arith))))

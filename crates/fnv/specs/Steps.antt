@@ -15,6 +15,10 @@ pub record Reached (from : ℕ) (bytes : List ℕ) (i state : ℕ) : Type 0 wher
   pub within : i ≤ length bytes
   pub on : hashFrom state (drop i bytes) ≡ hashFrom from bytes
 
+-- four slices have one length
+abbrev pub OneLength : List ℕ → List ℕ → List ℕ → List ℕ → Type 0
+OneLength a b c d = (length b ≡ length a) × (length c ≡ length a) × (length d ≡ length a)
+
 -- four states, each hashed on over its bytes
 pub record HashedOn (from : FourHashes) (a b c d : List ℕ) (states : FourHashes) : Type 0 where
   pub first : states .a ≡ hashFrom (from .a) a

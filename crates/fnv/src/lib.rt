@@ -4,7 +4,7 @@ ghost use mathlib.Core.Bool.{true};
 ghost use Prim.Native.Nat.{_+_, _*_, _%_, _^_, _<_, _≤_};
 ghost use lib.ListN.{length, replicate};
 ghost use Rattle.fnv.specs.Fnv.{step, hashFrom, fnv1a};
-ghost use Rattle.fnv.specs.Steps.{ZeroIf, Reached, HashedOn, AllReached};
+ghost use Rattle.fnv.specs.Steps.{ZeroIf, Reached, OneLength, HashedOn, AllReached};
 
 // The low 32 bits of a product.
 pub fn wrapping_mul(a: u32, b: u32) -> u32
@@ -124,7 +124,7 @@ pub struct FourHashes {
 
 // The states after all of four slices of one length, side by side: no product waits for that of another slice.
 fn mixed_four(from: FourHashes, a: &[u8], b: &[u8], c: &[u8], d: &[u8]) -> FourHashes
-    requires { ⌜ (length (now b) ≡ length (now a)) × (length (now c) ≡ length (now a)) × (length (now d) ≡ length (now a)) ⌝ }
+    requires { ⌜ OneLength (now a) (now b) (now c) (now d) ⌝ }
     ensures { λ r. ⌜ HashedOn from (now (a .entry)) (now (b .entry)) (now (c .entry)) (now (d .entry)) r ⌝ }
 {
     let mut state_a = from.a;
@@ -147,37 +147,24 @@ fn mixed_four(from: FourHashes, a: &[u8], b: &[u8], c: &[u8], d: &[u8]) -> FourH
     }
 }
 
-// Whether four words are all zeros; the first that is not ends the test.
-fn are_zero_words(a: &[u8], b: &[u8], c: &[u8], d: &[u8]) -> bool
-    requires { ⌜ (length (now a) ≡ 8) × (length (now b) ≡ 8) × (length (now c) ≡ 8) × (length (now d) ≡ 8) ⌝ }
-    ensures { λ r. ⌜ (r ≡ true → (now (a .entry) ≡ replicate 8 0) × (now (b .entry) ≡ replicate 8 0) × (now (c .entry) ≡ replicate 8 0) × (now (d .entry) ≡ replicate 8 0)) ⌝ }
+// The states after eight zeros in each of four slices.
+fn four_zeros(from: FourHashes) -> FourHashes
+    ensures { λ r. ⌜ HashedOn from (replicate 8 0) (replicate 8 0) (replicate 8 0) (replicate 8 0) r ⌝ }
 {
-    if !is_zero_word(a) {
-        return false;
+    FourHashes {
+        a: mixed_zeros(from.a),
+        b: mixed_zeros(from.b),
+        c: mixed_zeros(from.c),
+        d: mixed_zeros(from.d),
     }
-    if !is_zero_word(b) {
-        return false;
-    }
-    if !is_zero_word(c) {
-        return false;
-    }
-    is_zero_word(d)
 }
 
-// The states after eight bytes of each of four slices.
-fn mixed_words(from: FourHashes, a: &[u8], b: &[u8], c: &[u8], d: &[u8]) -> FourHashes
-    requires { ⌜ (length (now a) ≡ 8) × (length (now b) ≡ 8) × (length (now c) ≡ 8) × (length (now d) ≡ 8) ⌝ }
-    ensures { λ r. ⌜ HashedOn from (now (a .entry)) (now (b .entry)) (now (c .entry)) (now (d .entry)) r ⌝ }
+// The bits that are set in any of four words, so that one comparison tests them all.
+fn any_at(a: &[u8], b: &[u8], c: &[u8], d: &[u8], at: usize) -> u64
+    requires { ⌜ OneLength (now a) (now b) (now c) (now d) × (at + 8 ≤ length (now a)) ⌝ }
+    ensures { λ r. ⌜ ZeroIf 8 (now (a .entry)) at r × ZeroIf 8 (now (b .entry)) at r × ZeroIf 8 (now (c .entry)) at r × ZeroIf 8 (now (d .entry)) at r ⌝ }
 {
-    if are_zero_words(a, b, c, d) {
-        return FourHashes {
-            a: mixed_zeros(from.a),
-            b: mixed_zeros(from.b),
-            c: mixed_zeros(from.c),
-            d: mixed_zeros(from.d),
-        };
-    }
-    mixed_four(from, a, b, c, d)
+    eight_at(a, at) | eight_at(b, at) | eight_at(c, at) | eight_at(d, at)
 }
 
 // Four hashes that have come up to a place.
@@ -186,24 +173,69 @@ struct FourParts {
     at: usize,
 }
 
+// The hashes past the words from here on that are zeros in all four slices. The first slice's word is tested alone before the loop: where it is
+// not zero, the others need no test.
+fn past_zeros(from: FourParts, a: &[u8], b: &[u8], c: &[u8], d: &[u8]) -> FourParts
+    requires { ⌜ OneLength (now a) (now b) (now c) (now d) × (from .at + 8 ≤ length (now a)) ⌝ }
+    requires { ⌜ AllReached (now a) (now b) (now c) (now d) (from .at) (from .states) ⌝ }
+    ensures { λ r. ⌜ AllReached (now (a .entry)) (now (b .entry)) (now (c .entry)) (now (d .entry)) (r .at) (r .states) × (from .at ≤ r .at) ⌝ }
+{
+    let mut states = from.states;
+    let mut at = from.at;
+    if eight_at(a, at) != 0 {
+        return from;
+    }
+    while 8 <= a.len() - at {
+        if any_at(a, b, c, d, at) != 0 {
+            return FourParts { states, at };
+        }
+        states = four_zeros(states);
+        at += 8;
+    }
+    FourParts { states, at }
+}
+
+// The hashes past zeros, if there are any, and past one word more.
+fn next_words(from: FourParts, a: &[u8], b: &[u8], c: &[u8], d: &[u8]) -> FourParts
+    requires { ⌜ OneLength (now a) (now b) (now c) (now d) × (from .at + 8 ≤ length (now a)) ⌝ }
+    requires { ⌜ AllReached (now a) (now b) (now c) (now d) (from .at) (from .states) ⌝ }
+    ensures { λ r. ⌜ AllReached (now (a .entry)) (now (b .entry)) (now (c .entry)) (now (d .entry)) (r .at) (r .states) × (from .at < r .at) ⌝ }
+{
+    let parts = past_zeros(from, a, b, c, d);
+    let at = parts.at;
+    if a.len() - at < 8 {
+        return parts;
+    }
+    let end = at + 8;
+    let states = mixed_four(
+        parts.states,
+        &a[at..end],
+        &b[at..end],
+        &c[at..end],
+        &d[at..end],
+    );
+    FourParts { states, at: end }
+}
+
 // The hashes of four slices of one length up to the end of their last word.
 fn hash_four_words(a: &[u8], b: &[u8], c: &[u8], d: &[u8]) -> FourParts
-    requires { ⌜ (length (now b) ≡ length (now a)) × (length (now c) ≡ length (now a)) × (length (now d) ≡ length (now a)) ⌝ }
+    requires { ⌜ OneLength (now a) (now b) (now c) (now d) ⌝ }
     ensures { λ r. ⌜ AllReached (now (a .entry)) (now (b .entry)) (now (c .entry)) (now (d .entry)) (r .at) (r .states) ⌝ }
 {
-    let mut states = FourHashes {
+    let start = FourHashes {
         a: 2166136261,
         b: 2166136261,
         c: 2166136261,
         d: 2166136261,
     };
-    let mut at = 0;
-    while 8 <= a.len() - at {
-        let end = at + 8;
-        states = mixed_words(states, &a[at..end], &b[at..end], &c[at..end], &d[at..end]);
-        at = end;
+    let mut parts = FourParts {
+        states: start,
+        at: 0,
+    };
+    while 8 <= a.len() - parts.at {
+        parts = next_words(parts, a, b, c, d);
     }
-    FourParts { states, at }
+    parts
 }
 
 // The hashes of four slices of one length.

@@ -1,9 +1,10 @@
 -- The check of a block, part by part: the numbers that are read from bytes are those bytes again, so that the frame is left to test.
 -- Assumes nothing.
-use Prim.Native.Nat.{ℕ, _+_, _-_, _*_, _≤_}
-use mathlib.Core.Path.{_≡_, sym, ap, _∙_}
+use Prim.Native.Nat.{ℕ, zero, suc, _+_, _-_, _*_, _<_, _≤_}
+use mathlib.Core.Path.{_≡_, refl, sym, subst, ap₂, _∙_}
 use mathlib.Core.Bool.{Bool, true, _&&_, and-eq-true-iff}
 use mathlib.Core.List.{List, [], _∷_, map, append-nil}
+use native.Mathlib.Nat.{add-zero}
 use native.Mathlib.Omega.{arith}
 use lib.ListN.{length, drop}
 use Rattle.model.specs.Task.{Task}
@@ -41,15 +42,24 @@ entry-bytes bs b l kind byte1 n e h =
     rw (length-fields, ← e, les-fields bs 8 4 n b (omega arith))
     (rw (← e) at (framed-read kind byte1 (4 * n) (2 ∷ 4 ∷ []) bs b (omega arith)))
 
--- four are right: on to the fifth
-pub scan-four : (f : ℕ → Bool) (a b n : ℕ) → 4 ≤ n → b ≡ a + 4 → (f a && f (a + 1) && f (a + 2) && f (a + 3)) ≡ true → lowestFrom f a n ≡ lowestFrom f b (n - 4)
-scan-four f a b n h s e =
+-- the first k are right: on to those behind them
+scan-past : (f : ℕ → Bool) (k a b n m : ℕ) → b ≡ a + k → n ≡ k + m → ((i : ℕ) → i < k → f (a + i) ≡ true) → lowestFrom f a n ≡ lowestFrom f b m
+scan-past f zero a b n m s l right = ap₂ (lowestFrom f) (omega arith) (omega arith)
+scan-past f (suc k) a b n m s l right =
+    scan-next f a (a + 1) n (omega arith) refl (rw add-zero at (right 0 (omega arith))) ∙
+    scan-past f k (a + 1) b (n - 1) m (omega arith) (omega arith) (λ i h. subst (λ (j : ℕ). f j ≡ true) (omega arith) (right (suc i) (omega arith)))
+
+each-of-four : (f : ℕ → Bool) (a : ℕ) → f a ≡ true → f (a + 1) ≡ true → f (a + 2) ≡ true → f (a + 3) ≡ true → (i : ℕ) → i < 4 → f (a + i) ≡ true
+each-of-four f a one two three four zero h = rw add-zero one
+each-of-four f a one two three four (suc zero) h = two
+each-of-four f a one two three four (suc (suc zero)) h = three
+each-of-four f a one two three four (suc (suc (suc zero))) h = four
+each-of-four f a one two three four (suc (suc (suc (suc i)))) h = absurd (omega arith)
+
+-- four are right: on to any of them, or to the fifth
+pub scan-four : (f : ℕ → Bool) (a b n m : ℕ) → a ≤ b → b ≤ a + 4 → b + m ≡ a + n → (f a && f (a + 1) && f (a + 2) && f (a + 3)) ≡ true → lowestFrom f a n ≡ lowestFrom f b m
+scan-four f a b n m low high end e =
     let fourth = and-eq-true-iff (f a && f (a + 1) && f (a + 2)) (f (a + 3)) .0 e in
     let third = and-eq-true-iff (f a && f (a + 1)) (f (a + 2)) .0 (fourth .0) in
     let second = and-eq-true-iff (f a) (f (a + 1)) .0 (third .0) in
-    let rest : n - 1 - 1 - 1 - 1 ≡ n - 4 = omega arith in
-    scan-next f a (a + 1) n (omega arith) (omega arith) (second .0) ∙
-    scan-next f (a + 1) (a + 2) (n - 1) (omega arith) (omega arith) (second .1) ∙
-    scan-next f (a + 2) (a + 3) (n - 1 - 1) (omega arith) (omega arith) (third .1) ∙
-    scan-next f (a + 3) b (n - 1 - 1 - 1) (omega arith) (omega arith) (fourth .1) ∙
-    ap (lowestFrom f b) rest
+    scan-past f (b - a) a b n m (omega arith) (omega arith) (λ i h. each-of-four f a (second .0) (second .1) (third .1) (fourth .1) i (omega arith))

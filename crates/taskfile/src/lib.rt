@@ -64,19 +64,34 @@ fn four_right(file: &[u8], k: usize) -> bool
     )
 }
 
-// How many blocks are left past the first few, those left over from fours, if their checksums are right.
+// How many blocks are left past the first, if its checksum is right.
+fn left_after_first(file: &[u8]) -> usize
+    requires { ⌜ 512 ≤ length (now file) ⌝ }
+    ensures { λ r. ⌜ LeftToTest (now (file .entry)) r ⌝ }
+{
+    let count = file.len() / 512;
+    if block::checksum_right(block_at(file, 0)) {
+        return count - 1;
+    }
+    count
+}
+
+// How many blocks are left past the first few, in whole fours, if the checksums of these are right. A header that is left over alone is tested alone, since
+// most of its bytes are zeros; otherwise a block of the first four may be among those left, and is tested again.
 fn left_after_few(file: &[u8]) -> usize
     ensures { λ r. ⌜ LeftToTest (now (file .entry)) r ⌝ }
 {
     let count = file.len() / 512;
-    let mut left = count;
-    while left % 4 != 0 {
-        if !block::checksum_right(block_at(file, count - left)) {
-            return left;
-        }
-        left -= 1;
+    if count % 4 == 1 {
+        return left_after_first(file);
     }
-    left
+    if count < 4 {
+        return count;
+    }
+    if !four_right(file, 0) {
+        return count;
+    }
+    (count - 1) / 4 * 4
 }
 
 // How many blocks are left past the fours of right checksums behind them.

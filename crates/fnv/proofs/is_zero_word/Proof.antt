@@ -1,5 +1,7 @@
 -- `fnv::is_zero_word` meets its contract: the number is 0 if each byte is. Assumes nothing.
+use mathlib.Core.Path.{sym, _∙_}
 use native.Mathlib.Omega.{arith}
+use lib.Seq.{take-all}
 use borrow.Author.Needs.{needs}
 use borrow.Author.Tests.{eqb-true}
 use Rattle.fnv.proofs.Zeros.{all-zero}
@@ -10,7 +12,9 @@ eight-at-requires : tie.Need-eight-at-requires
 eight-at-requires c κs = search needs
 
 returns : tie.Need-returns
-returns c = λ e. all-zero 8 (c .before .before .args .word .now) 0 (omega arith) (c .eight-at .ensures (eqb-true _ _ e))
+returns c =
+    let word = c .before .before .args .word .now in
+    λ e. sym (take-all 8 word (omega arith)) ∙ all-zero 8 word 0 (omega arith) (c .eight-at .ensures (eqb-true _ _ e))
 
 pub is-zero-word-spec : {M : Type 1} → statement M
 is-zero-word-spec = tie.close (tie.spec eight-at-requires returns)

@@ -45,7 +45,7 @@ loop-again c =
     let head = c .before .before .before in (
       omega arith,
       head .loop .inv .1 ∙
-          scan-four (sumRight (head .before .before .before .args .file .now)) _ _ _ (omega arith) (omega arith)
+          scan-four (sumRight (head .before .before .before .args .file .now)) _ _ _ _ (omega arith) (omega arith) (omega arith)
           (sym (c .before .four-right .ensures) ∙ not-false _ (c .if1 .left)),
     )
 

@@ -2,7 +2,7 @@
 -- Assumes nothing.
 use Prim.Native.Nat.{ℕ, zero, suc, _+_, _-_, _*_, _/_, _%_, _^_, _<_, _≤_}
 use mathlib.Core.Path.{_≡_, refl, sym, ap, ap₂, _∙_}
-use mathlib.Core.Bool.{_&&_}
+use mathlib.Core.Bool.{true, _&&_}
 use mathlib.Core.List.{List, [], _∷_, _++_, append-assoc}
 use native.Mathlib.Nat.{zero-add, add-zero, suc-add, add-assoc, mul-zero, mul-suc, mul-assoc, mul-comm, pow-suc, div-one, div-div-eq-div-mul}
 use native.Mathlib.Omega.{arith}
@@ -222,14 +222,26 @@ unfolding le
 zeros-le zero = refl
 zeros-le (suc w) = ap (_∷_ 0) (zeros-le w)
 
--- the next w bytes are one number, which is tested first
-pub zeros-step : (w : ℕ) (bs : List ℕ) (i to : ℕ) → AllBytes bs → i + w ≤ to → to ≤ length bs → zerosBetween bs i to ≡ (eqb (field bs i w) 0 && zerosBetween bs (i + w) to)
-zeros-step w bs i to b h k =
-    let s : to - i ≡ w + (to - (i + w)) = omega arith in
-    let first : sameList (take w (drop i bs)) (replicate w 0) ≡ eqb (field bs i w) 0 =
-    rw zeros-le (same-field bs i w 0 b (omega arith) (pow-pos w)) in
-    rw (s, take-add, drop-drop, ← replicate-append-replicate, ← first)
-    (same-append (take w (drop i bs)) (replicate w 0) _ _ (rw length-replicate (length-part i w bs (omega arith))))
+-- w bytes are zeros just where their number is 0
+pub zeros-number : (w : ℕ) (bs : List ℕ) (at : ℕ) → AllBytes bs → at + w ≤ length bs → zerosBetween bs at (at + w) ≡ eqb (field bs at w) 0
+zeros-number w bs at b h =
+    let s : at + w - at ≡ w = omega arith in
+    rw (s, zeros-le) (same-field bs at w 0 b h (pow-pos w))
+
+-- there are no bytes
+pub zeros-none : (bs : List ℕ) (i to : ℕ) → to ≤ i → zerosBetween bs i to ≡ true
+unfolding sameList
+zeros-none bs i to h =
+    let s : to - i ≡ 0 = omega arith in
+    rw s
+
+-- the bytes up to one of them, and those from it on
+pub zeros-split : (bs : List ℕ) (i mid to : ℕ) → i ≤ mid → mid ≤ to → to ≤ length bs → zerosBetween bs i to ≡ (zerosBetween bs i mid && zerosBetween bs mid to)
+zeros-split bs i mid to h k l =
+    let s : to - i ≡ mid - i + (to - mid) = omega arith in
+    let m : i + (mid - i) ≡ mid = omega arith in
+    rw (s, take-add, drop-drop, m, ← replicate-append-replicate)
+    (same-append (take (mid - i) (drop i bs)) (replicate (mid - i) 0) _ _ (rw length-replicate (length-part i (mid - i) bs (omega arith))))
 
 pub clear-step : (bs : List ℕ) (i to : ℕ) → i < to → to ≤ length bs
     → take (suc i) (set bs i 0) ++ replicate (to - suc i) 0 ++ drop to (set bs i 0) ≡ take i bs ++ replicate (to - i) 0 ++ drop to bs

@@ -3,6 +3,7 @@ ghost use mathlib.Core.Path.{_≡_};
 ghost use mathlib.Core.Bool.{_&&_};
 ghost use mathlib.Core.List.{_++_};
 ghost use Prim.Native.Nat.{_+_, _-_, _*_, _%_, _≤_};
+ghost use lib.Dec.{eqb};
 ghost use lib.ListN.{length, take, drop, replicate};
 ghost use Rattle.fnv.specs.Fnv.{fnv1a};
 ghost use Rattle.block.specs.Bytes.{le, les, field, zerosBetween};
@@ -36,23 +37,18 @@ pub fn u64_at(bytes: &[u8], at: usize) -> u64
     u32_at(bytes, at) as u64 + 4294967296 * (u32_at(bytes, at + 4) as u64)
 }
 
-// Steps over words of eight zeros: the bytes from start up to the answer are zeros, and those from it up to end are left to test.
-fn past_zero_words(bytes: &[u8], start: usize, end: usize) -> usize
-    requires { ⌜ end ≤ length (now bytes) ⌝ }
-    ensures { λ r. ⌜ zerosBetween (now (bytes .entry)) r end ≡ zerosBetween (now (bytes .entry)) start end ⌝ }
+// The or of words of eight bytes, one behind another from start on: zero just where all their bytes are.
+fn any_of_words(bytes: &[u8], start: usize, count: usize) -> u64
+    requires { ⌜ start + 8 * count ≤ length (now bytes) ⌝ }
+    ensures { λ r. ⌜ eqb r 0 ≡ zerosBetween (now (bytes .entry)) start (start + 8 * count) ⌝ }
 {
-    if end < 8 {
-        return start;
+    let mut any = 0;
+    let mut i = 0;
+    while i < count {
+        any |= u64_at(bytes, start + 8 * i);
+        i += 1;
     }
-    let last = end - 8;
-    let mut i = start;
-    while i <= last {
-        if u64_at(bytes, i) != 0 {
-            return i;
-        }
-        i += 8;
-    }
-    i
+    any
 }
 
 // Whether the bytes from start up to end are all zero; the byte at end is not looked at.
@@ -60,7 +56,14 @@ pub fn zero_between(bytes: &[u8], start: usize, end: usize) -> bool
     requires { ⌜ end ≤ length (now bytes) ⌝ }
     ensures { λ r. ⌜ r ≡ zerosBetween (now (bytes .entry)) start end ⌝ }
 {
-    let mut i = past_zero_words(bytes, start, end);
+    if end < start {
+        return true;
+    }
+    let words = (end - start) / 8;
+    if any_of_words(bytes, start, words) != 0 {
+        return false;
+    }
+    let mut i = start + 8 * words;
     while i < end {
         if bytes[i] != 0 {
             return false;

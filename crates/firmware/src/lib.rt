@@ -66,7 +66,7 @@ fn keep(verdict: Verdict, plan: Plan, block: &mut [u8])
 {
     match verdict {
         Verdict::Accepted => {
-            planner::store(plan, block);
+            planblock::put_plan(plan, block);
         }
         Verdict::Refused(_) => {}
     }

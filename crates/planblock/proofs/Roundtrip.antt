@@ -50,7 +50,7 @@ module _ (p : Plan) (f : PlanFits p) (e : planVerdict p ≡ Accepted) where
       let long : length (drop (p .count) (p .points)) ≡ 64 - p .count = rw (length-drop, f .entries) in
       ext-getD 0 (drop (p .count) (p .points)) (replicate (64 - p .count) 0) (rw (long, length-replicate))
       (λ i h.
-      let right = lowest-nowhere (pointRight p) 0 64 (accepted-parts p e .1) (p .count + i) (omega arith) (omega arith) in
+      let right = lowest-nowhere (pointRight (p .blocks) (p .count) (p .points)) 0 64 (accepted-parts p e .1) (p .count + i) (omega arith) (omega arith) in
       rw (getD-drop, getD-replicate {A = ℕ} (64 - p .count) i 0 0 (omega arith)) (eqb-true _ 0 (rw (le-ltb (p .count + i) (p .count) (omega arith)) at right)))
 
   numbers-read : field (planBytes p) ≡ (λ i v. numberAt 0 (planNumbers p) i v (field (planBytes p) i v))

@@ -67,8 +67,8 @@ fn put_checksum(plan: Plan, out: &mut [u8])
     block::seal(out);
 }
 
-// Stores a plan's 512 bytes.
-fn put_plan(plan: Plan, out: &mut [u8])
+// Stores a plan's 512 bytes, without a check of the plan: `store` has one.
+pub fn put_plan(plan: Plan, out: &mut [u8])
     requires { ⌜ length (now out) ≡ 512 ⌝ }
     requires { ⌜ plan .count ≤ 63 ⌝ }
     ensures { λ _. ⌜ now (out .exit) ≡ planBytes plan ⌝ }

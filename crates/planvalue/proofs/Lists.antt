@@ -30,16 +30,16 @@ module _ (t : Task) (ps : List ℕ) (least : 1 ≤ blockCount t) (most : blockCo
   before zero h = refl
   before (suc i) h = List·getD-append ps _ 0 i (omega arith)
 
-  entries : (i : ℕ) → i < 64 → pointRight (planFor t ps) i ≡ true
-  unfolding pointRight planFor
+  entries : (i : ℕ) → i < 64 → pointRight (blockCount t) (length ps) points i ≡ true
+  unfolding pointRight
   entries i h = by-cases (decLe (suc i) (length ps)) (λ l. point l) (λ l. beyond (omega arith))
     where
-      point : i < length ps → pointRight (planFor t ps) i ≡ true
+      point : i < length ps → pointRight (blockCount t) (length ps) points i ≡ true
       point l =
           rw (lt-ltb i (length ps) l, before i l, List·getD-append ps (replicate (64 - length ps) 0) 0 i l)
           (point-right (blockCount t) 0 ps i well l)
 
-      beyond : length ps ≤ i → pointRight (planFor t ps) i ≡ true
+      beyond : length ps ≤ i → pointRight (blockCount t) (length ps) points i ≡ true
       beyond l =
           let s : i ≡ length ps + (i - length ps) = omega arith in
           let zero : getD points i 0 ≡ 0 =
@@ -53,6 +53,6 @@ module _ (t : Task) (ps : List ℕ) (least : 1 ≤ blockCount t) (most : blockCo
         le-leb 1 (blockCount t) least,
         le-leb (blockCount t) 64 most,
         le-leb (length ps) 63 (omega (arith, short)),
-        nowhere-lowest (pointRight (planFor t ps)) 0 64 (λ i l m. entries i (omega arith)),
+        nowhere-lowest (pointRight (blockCount t) (length ps) points) 0 64 (λ i l m. entries i (omega arith)),
       )
       refl

@@ -15,15 +15,18 @@ use Rattle.model.proofs.Verdicts.{never-both}
 use Rattle.model.specs.Lists.{lowestFrom}
 use Rattle.planvalue.specs.Values.{pointRight, planInRange, planVerdict}
 
-pub accepted-parts : (p : Plan) → planVerdict p ≡ Accepted → (planInRange p ≡ true) × (lowestFrom (pointRight p) 0 64 ≡ Nowhere)
+pub accepted-parts : (p : Plan) → planVerdict p ≡ Accepted → (planInRange p ≡ true) × (lowestFrom (pointRight (p .blocks) (p .count) (p .points)) 0 64 ≡ Nowhere)
 unfolding planVerdict
-accepted-parts p e = go (planInRange p) (lowestFrom (pointRight p) 0 64) e
+accepted-parts p e = go (planInRange p) (lowestFrom (pointRight (p .blocks) (p .count) (p .points)) 0 64) e
   where
     go : (b : Bool) (k : Place) → cond b (refusedAt k Argument Accepted) (Refused (Argument 0)) ≡ Accepted → (b ≡ true) × (k ≡ Nowhere)
     go true Nowhere q = (refl, refl)
     go true (At i) q = absurd (never-both (sym q))
     go false k q = absurd (never-both (sym q))
 
-pub count-accepted : (p : Plan) → planVerdict p ≡ Accepted → p .count ≤ 63
+pub count-in-range : (p : Plan) → planInRange p ≡ true → p .count ≤ 63
 unfolding planInRange
-count-accepted p e = leb-true (p .count) 63 (and-eq-true-iff (leb 1 (p .blocks) && leb (p .blocks) 64) (leb (p .count) 63) .0 (accepted-parts p e .0) .1)
+count-in-range p e = leb-true (p .count) 63 (and-eq-true-iff (leb 1 (p .blocks) && leb (p .blocks) 64) (leb (p .count) 63) .0 e .1)
+
+pub count-accepted : (p : Plan) → planVerdict p ≡ Accepted → p .count ≤ 63
+count-accepted p e = count-in-range p (accepted-parts p e .0)

@@ -16,10 +16,9 @@ unfoldable pub pointBefore : List ℕ → ℕ → ℕ
 pointBefore ps zero = 0
 pointBefore ps (suc i) = getD ps i 0
 
--- entry i of a plan: a right point below the count, and 0 from there on
-unfoldable pub pointRight : Plan → ℕ → Bool
-pointRight p i =
-    cond (ltb i (p .count)) (rightPoint (p .blocks) (pointBefore (p .points) i) (getD (p .points) i 0)) (eqb (getD (p .points) i 0) 0)
+-- entry i of the points of a plan of n blocks: a right point below the count, and 0 from there on
+unfoldable pub pointRight : ℕ → ℕ → List ℕ → ℕ → Bool
+pointRight n count ps i = cond (ltb i count) (rightPoint n (pointBefore ps i) (getD ps i 0)) (eqb (getD ps i 0) 0)
 
 -- N is 1 to 64 and the count at most 63
 unfoldable pub planInRange : Plan → Bool
@@ -27,7 +26,7 @@ planInRange p = leb 1 (p .blocks) && leb (p .blocks) 64 && leb (p .count) 63
 
 -- 7 at the lowest wrong entry
 abbrev pub pointsVerdict : Plan → Verdict
-pointsVerdict p = refusedAt (lowestFrom (pointRight p) 0 64) Argument Accepted
+pointsVerdict p = refusedAt (lowestFrom (pointRight (p .blocks) (p .count) (p .points)) 0 64) Argument Accepted
 
 -- can a plan be stored: 7 at 0 for N or the count, then for the entries
 unfoldable pub planVerdict : Plan → Verdict

@@ -1,10 +1,8 @@
 -- `firmware::keep` meets its contract: an accepted plan is stored in the whole block, and else nothing is.
 -- Assumes nothing.
 use mathlib.Core.Path.{_≡_}
-use lib.ListN.{length}
 use Rattle.model.specs.declared.Verdict.the-variants.{Accepted}
-use Rattle.model.proofs.Verdicts.{output-accepts}
-use Rattle.planblock.specs.Plans.{storeVerdict, stored}
+use Rattle.planvalue.proofs.Verdicts.{count-accepted}
 use borrow.Author.Needs.{needs}
 use Rattle.firmware.proofs.keep.Statement.{statement}
 use Rattle.firmware.proofs.keep.Tie as tie
@@ -12,8 +10,10 @@ use Rattle.firmware.proofs.keep.Tie as tie
 enum-told : tie.Need-enum-told
 enum-told c = search needs
 
-store-requires : tie.Need-store-requires
-store-requires c κs = search needs
+put-plan-requires : tie.Need-put-plan-requires
+put-plan-requires c κs =
+    let start = c .before .before .before .before in
+    (start .pre .0, count-accepted (start .args .plan) (start .pre .1 (c .before .enum-told .given .1)))
 
 enum-told-2 : tie.Need-enum-told-2
 enum-told-2 c = search needs
@@ -22,16 +22,13 @@ same-length : tie.Need-same-length
 same-length c = search needs
 
 returns : tie.Need-returns
-unfolding storeVerdict stored
 returns c =
     let told = c .before .before .before .before in
-    let start = told .before .before .before in
-    let accepted : start .args .verdict ≡ Accepted = told .enum-told .given .1 in
-    let left = rw (output-accepts 512 (length (start .args .block .now)) (start .pre .0), start .pre .1 accepted) at (c .before .before .store .ensures .1) in
-    rw accepted left
+    let accepted : told .before .before .before .args .verdict ≡ Accepted = told .enum-told .given .1 in
+    rw accepted (c .before .before .put-plan .ensures)
 
 returns-2 : tie.Need-returns-2
 returns-2 c = search needs
 
 pub keep-spec : {M : Type 1} → statement M
-keep-spec = tie.close (tie.spec enum-told store-requires enum-told-2 same-length returns returns-2)
+keep-spec = tie.close (tie.spec enum-told put-plan-requires enum-told-2 same-length returns returns-2)

@@ -1,5 +1,6 @@
 -- `planvalue::check` meets its contract: the range is tested first, and then the entries.
 -- Assumes nothing.
+use mathlib.Core.Path.{sym, _∙_}
 use borrow.Author.Tests.{not-true, not-false}
 use borrow.Author.Needs.{needs}
 use Rattle.planvalue.specs.Values.{planVerdict}
@@ -14,7 +15,7 @@ unfolding planVerdict
 returns c = rw (← c .before .in-range .ensures, not-true (c .before .in-range .result) (c .if1 .taken))
 
 check-points-requires : tie.Need-check-points-requires
-check-points-requires c κs = search needs
+check-points-requires c κs = sym (c .before .in-range .ensures) ∙ not-false (c .before .in-range .result) (c .if1 .left)
 
 returns-2 : tie.Need-returns-2
 unfolding planVerdict

@@ -27,11 +27,11 @@ sub-result c = search needs
 mul-result : tie.Need-mul-result
 mul-result c = search needs
 
-array-read-result : tie.Need-array-read-result
-array-read-result c = search needs
+element-copy-out-result : tie.Need-element-copy-out-result
+element-copy-out-result c = search needs
 
 returns-2 : tie.Need-returns-2
-returns-2 c = later (c .before .args .t1) (c .before .args .i) (c .if1 .left)
+returns-2 c = later (c .before .before .args .points .now) (c .before .before .args .i) (c .before .if1 .left)
 
 pub point-before-spec : {M : Type 1} → statement M
-point-before-spec = tie.close (tie.spec returns sub-result mul-result array-read-result returns-2)
+point-before-spec = tie.close (tie.spec returns sub-result mul-result element-copy-out-result returns-2)

@@ -2,7 +2,9 @@
 use Prim.Native.Nat.{ℕ, _+_, _*_, _/_, _%_, _^_, _≤_, _<_}
 use mathlib.Core.Path.{_≡_}
 use lib.Bits.{bitAnd}
+use lib.Dec.{eqb}
 use Rattle.model.specs.Task.{Task, lineCount}
+use Rattle.model.specs.Lines.{onLine}
 use Rattle.model.specs.declared.Mapping.{Mapping}
 use Rattle.model.specs.declared.Mapping.the-variants.{Uncached, Cached}
 use Rattle.cacheline.specs.declared.Divider.{Divider}
@@ -46,3 +48,7 @@ pub record GeometryOf (t : Task) (c : Geometry) : Type 0 where
 abbrev pub WithinCache : Mapping → Type 0
 WithinCache Uncached = Unit
 WithinCache (Cached c) = c < 512
+
+-- memory block m lies on the line of this number, and on none if it is 512, the place behind the lines
+abbrev pub InPlace : Task → ℕ → ℕ → Type 0
+InPlace t m place = (d : ℕ) → d < 512 → onLine t d m ≡ eqb d place

@@ -5,7 +5,7 @@ ghost use Rattle.model.specs.Task.{Task};
 ghost use Rattle.model.specs.Lines.{lineOf, onLine};
 ghost use Rattle.model.specs.Lines as Lines;
 ghost use Rattle.taskfile.specs.File.{IsAccepted, taskOf};
-ghost use Rattle.cacheline.specs.Geometries.{Divides, Masks, PowerFor, Sound, GeometryOf, WithinCache};
+ghost use Rattle.cacheline.specs.Geometries.{Divides, Masks, PowerFor, Sound, GeometryOf, WithinCache, InPlace};
 use model::Mapping;
 
 // Three numbers that divide by a count: the quotient of any 32-bit number is (number * factor + addend) >> shift.
@@ -118,6 +118,15 @@ impl Geometry {
         }
     }
 
+    // The place of a memory block in arrays over the lines: its line, or 512 behind them. Both are computed, so that there is no branch.
+    pub fn place_of(self, number: u32) -> usize
+        requires { ⌜ Sound self ⌝ }
+        ensures { λ r. ⌜ ((t : Task) → GeometryOf t self → InPlace t number r) × (r < 513) ⌝ }
+    {
+        let line = self.remainder(number);
+        if self.bypasses(number) { 512 } else { line }
+    }
+
     // Whether a memory block lies on line c.
     pub fn lies_on(self, number: u32, c: usize) -> bool
         requires { ⌜ Sound self ⌝ }
@@ -133,6 +142,9 @@ impl Geometry {
     fn bypasses(self, number: u32) -> bool
         ensures { λ r. ⌜ ((t : Task) → GeometryOf t self → r ≡ Lines.bypasses t number) ⌝ }
     {
+        if self.bypassing == 0 {
+            return false;
+        }
         let behind = (number as u64 + 4294967296 - self.first as u64) % 4294967296;
         behind < self.bypassing as u64
     }

@@ -1,5 +1,6 @@
 -- What a walk over a task's reads keeps of the lines: what each of them holds after the reads passed, and the block that read it last. Whoever
--- walks the reads keeps this in arrays, and each read more is one step of it. Of a line that holds nothing the block may be any.
+-- walks the reads keeps this in arrays of its own, and each read more is one step of it. Of a line that holds nothing the block may be any. A read that
+-- lies on no line has a place behind them, such as 512.
 -- Assumes nothing.
 use Prim.Native.Nat.{ℕ, suc, _+_, _≤_, _<_}
 use mathlib.Core.Path.{_≡_, refl, sym, ap, _∙_}
@@ -9,8 +10,8 @@ use mathlib.Core.List.{List, [], _∷_, _++_}
 use native.Mathlib.Omega.{arith}
 use native.Mathlib.Decide.{ℕ-discrete, decLt}
 use lib.Dec.{eqb, ltb}
-use lib.ListN.{length, getD, set, take, drop, replicate, length-set, length-take, getD-replicate, drop-of-length-le, take-append-drop}
-use lib.Seq.{getD-set-same, getD-set-other, take-suc, take-take, drop-append-le, drop-nil}
+use lib.ListN.{length, getD, take, drop, length-take, drop-of-length-le, take-append-drop}
+use lib.Seq.{take-suc, take-take, drop-append-le, drop-nil}
 use borrow.Author.Tests.{eq-eqb, ne-eqb, lt-ltb, le-ltb}
 use Rattle.model.specs.Task.{Task, blockCount}
 use Rattle.model.specs.Lines.{onLine, lastRead, anyRead, blockAt}
@@ -31,24 +32,23 @@ abbrev pub isHeld : Line → Bool
 isHeld Empty = false
 isHeld (Held m) = true
 
--- the array has what each line holds after p reads
-pub record Holds (t : Task) (p : ℕ) (held : List Line) : Type 0 where
-  pub long : length held ≡ 512
-  pub states : (c : ℕ) → c < 512 → getD held c Empty ≡ lastRead (onLine t c) Empty (readsBefore t p)
+-- what each line holds after p reads
+abbrev pub Holds : Task → ℕ → (ℕ → Line) → Type 0
+Holds t p held = (c : ℕ) → c < 512 → held c ≡ lastRead (onLine t c) Empty (readsBefore t p)
 
 -- and each line that holds a number was read last in the block that since tells: it was read since edge k if that block comes after k
-pub record History (t : Task) (p : ℕ) (held : List Line) (since : ℕ → ℕ) : Type 0 where
+pub record History (t : Task) (p : ℕ) (held : ℕ → Line) (since : ℕ → ℕ) : Type 0 where
   pub holds : Holds t p held
-  pub last : (c : ℕ) → c < 512 → (k : ℕ) → anyRead (onLine t c) (readsSince t k p) ≡ (isHeld (getD held c Empty) && ltb k (since c))
+  pub last : (c : ℕ) → c < 512 → (k : ℕ) → anyRead (onLine t c) (readsSince t k p) ≡ (isHeld (held c) && ltb k (since c))
 
 -- before the first read
-pub holds-none : (t : Task) → Holds t 0 (replicate 512 Empty)
+pub holds-none : (t : Task) {held : ℕ → Line} → ((c : ℕ) → c < 512 → held c ≡ Empty) → Holds t 0 held
 unfolding lastRead
-holds-none t = record { long = refl; states = λ c h. getD-replicate 512 c Empty Empty h }
+holds-none t none = none
 
-pub history-none : (t : Task) (since : ℕ → ℕ) → History t 0 (replicate 512 Empty) since
+pub history-none : (t : Task) {held : ℕ → Line} (since : ℕ → ℕ) → ((c : ℕ) → c < 512 → held c ≡ Empty) → History t 0 held since
 unfolding anyRead
-history-none t since = record { holds = holds-none t; last = λ c h k. rw (drop-nil, getD-replicate 512 c Empty Empty h) refl }
+history-none t since none = record { holds = holds-none t none; last = λ c h k. rw (drop-nil, none c h) refl }
 
 -- read j of block i + 1, of number m
 module _ (t : Task) (i j m : ℕ) (hi : i < blockCount t) (hj : j < length (blockAt t i .reads)) (is : getD (blockAt t i .reads) j 0 ≡ m) where
@@ -86,49 +86,32 @@ module _ (t : Task) (i j m : ℕ) (hi : i < blockCount t) (hj : j < length (bloc
       (λ h. ap (anyRead (onLine t c)) (none-yet k (suc (edge t i + j)) h (omega arith) ∙ sym (none-yet k (edge t i + j) h (omega arith))))
       (λ h. any-more c k (omega arith) ∙ rw off (or-false _))
 
-  -- it lies on no line
+  -- it lies on the line of this place, if the place is one: the line then holds it, and block i + 1 has read it last
+  pub holds-more : {held held′ : ℕ → Line} (line : ℕ) → ((d : ℕ) → d < 512 → onLine t d m ≡ eqb d line) → (line < 512 → held′ line ≡ Held m)
+      → ((d : ℕ) → (d ≡ line → ⊥) → held′ d ≡ held d) → Holds t (edge t i + j) held → Holds t (suc (edge t i + j)) held′
+  holds-more line at here there h c l =
+      by-cases (ℕ-discrete c line)
+      (λ e. rw e (here (omega arith) ∙ sym (state-more line ∙ rw (at line (omega arith), eq-eqb line line refl) refl)))
+      (λ n. there c n ∙ h c l ∙ sym (state-more c ∙ rw (at c l, ne-eqb c line n) refl))
 
-  pub holds-skip : {held : List Line} → ((d : ℕ) → onLine t d m ≡ false) → Holds t (edge t i + j) held → Holds t (suc (edge t i + j)) held
-  holds-skip at h = record { long = h .long; states = λ c l. h .states c l ∙ sym (state-more c ∙ rw (at c) refl) }
-
-  pub history-skip : {held : List Line} {since : ℕ → ℕ} → ((d : ℕ) → onLine t d m ≡ false) → History t (edge t i + j) held since
-      → History t (suc (edge t i + j)) held since
-  history-skip at h = record { holds = holds-skip at (h .holds); last = λ c l k. any-same c k (at c) ∙ h .last c l k }
-
-  -- it lies on this line, which then holds it, and block i + 1 has read it last
-
-  pub holds-more : {held : List Line} (line : ℕ) → line < 512 → ((d : ℕ) → onLine t d m ≡ eqb d line) → Holds t (edge t i + j) held
-      → Holds t (suc (edge t i + j)) (set held line (Held m))
-  holds-more {held} line hl at h =
-      record {
-        long = length-set held line _ ∙ h .long;
-        states =
-            λ c l.
-            by-cases (ℕ-discrete c line)
-            (λ e. rw e (getD-set-same held line (Held m) Empty (omega (arith, h .long)) ∙ sym (state-more line ∙ rw (at line, eq-eqb line line refl) refl)))
-            (λ n. getD-set-other held line c (Held m) Empty n ∙ h .states c l ∙ sym (state-more c ∙ rw (at c, ne-eqb c line n) refl));
-      }
-
-  pub history-more : {held : List Line} {since since′ : ℕ → ℕ} (line : ℕ) → line < 512 → ((d : ℕ) → onLine t d m ≡ eqb d line)
-      → since′ line ≡ suc i → ((d : ℕ) → (d ≡ line → ⊥) → since′ d ≡ since d) → History t (edge t i + j) held since
-      → History t (suc (edge t i + j)) (set held line (Held m)) since′
+  pub history-more : {held held′ : ℕ → Line} {since since′ : ℕ → ℕ} (line : ℕ) → ((d : ℕ) → d < 512 → onLine t d m ≡ eqb d line)
+      → (line < 512 → (held′ line ≡ Held m) × (since′ line ≡ suc i)) → ((d : ℕ) → (d ≡ line → ⊥) → (held′ d ≡ held d) × (since′ d ≡ since d))
+      → History t (edge t i + j) held since → History t (suc (edge t i + j)) held′ since′
   unfolding anyRead
-  history-more {held} {since} {since′} line hl at here there h =
+  history-more {held} {held′} {since} {since′} line at here there h =
       record {
-        holds = holds-more line hl at (h .holds);
-        last = λ c l k. by-cases (ℕ-discrete c line) (λ e. rw e (on-it k)) (λ n. off-it c l n k);
+        holds = holds-more line at (λ l. here l .0) (λ d n. there d n .0) (h .holds);
+        last = λ c l k. by-cases (ℕ-discrete c line) (λ e. rw e (on-it (omega arith) k)) (λ n. off-it c l n k);
       }
     where
-      on-it : (k : ℕ) → anyRead (onLine t line) (readsSince t k (suc (edge t i + j))) ≡ (isHeld (getD (set held line (Held m)) line Empty) && ltb k (since′ line))
-      on-it k =
-          rw (getD-set-same held line (Held m) Empty (omega (arith, h .holds .long)), here)
+      on-it : line < 512 → (k : ℕ) → anyRead (onLine t line) (readsSince t k (suc (edge t i + j))) ≡ (isHeld (held′ line) && ltb k (since′ line))
+      on-it low k =
+          rw (here low .0, here low .1)
           (by-cases (decLt i k) (λ l. ap (anyRead (onLine t line)) (none-yet k (suc (edge t i + j)) l (omega arith)) ∙ sym (le-ltb k (suc i) (omega arith)))
-          (λ l. any-more line k (omega arith) ∙ rw (at line, eq-eqb line line refl, or-true, lt-ltb k (suc i) (omega arith)) refl))
+          (λ l. any-more line k (omega arith) ∙ rw (at line low, eq-eqb line line refl, or-true, lt-ltb k (suc i) (omega arith)) refl))
 
-      off-it : (c : ℕ) → c < 512 → (c ≡ line → ⊥) → (k : ℕ)
-          → anyRead (onLine t c) (readsSince t k (suc (edge t i + j))) ≡ (isHeld (getD (set held line (Held m)) c Empty) && ltb k (since′ c))
-      off-it c l n k =
-          any-same c k (at c ∙ ne-eqb c line n) ∙ rw (getD-set-other held line c (Held m) Empty n, there c n) (h .last c l k)
+      off-it : (c : ℕ) → c < 512 → (c ≡ line → ⊥) → (k : ℕ) → anyRead (onLine t c) (readsSince t k (suc (edge t i + j))) ≡ (isHeld (held′ c) && ltb k (since′ c))
+      off-it c l n k = any-same c k (at c l ∙ ne-eqb c line n) ∙ rw (there c n .0, there c n .1) (h .last c l k)
 
 -- a line on which no read lies since edge k holds what it held there
 pub state-from : (t : Task) (c k p : ℕ) → edge t k ≤ p → anyRead (onLine t c) (readsSince t k p) ≡ false

@@ -5,12 +5,14 @@ use Prim.Native.Nat.{ℕ, zero, suc, _+_, _-_, _≤_, _<_}
 use mathlib.Core.Path.{_≡_, refl, sym, ap, _∙_}
 use mathlib.Core.Bool.{Bool, true, false, cond, _&&_, and-true, and-false, and-comm}
 use mathlib.Core.List.{List, [], _∷_, append-nil}
+use mathlib.Core.Logic.{by-cases}
+use native.Mathlib.Decide.{decLt}
 use native.Mathlib.Nat.{add-suc}
 use native.Mathlib.Omega.{arith}
 use lib.Dec.{eqb, leb, ltb}
 use lib.ListN.{length, getD, take, drop, take-append-drop, length-drop}
 use lib.Seq.{take-suc, take-add, getD-drop, drop-append-seam, drop-length}
-use borrow.Author.Tests.{ltb-true, ltb-false, le-leb, lt-leb}
+use borrow.Author.Tests.{ltb-true, ltb-false, le-leb, lt-leb, ne-eqb}
 use Rattle.model.specs.Sets.{Lines, bit, countBelow, size}
 use Rattle.model.specs.Task.{Block, Task, blockCount, noBlock}
 use Rattle.model.specs.Lines.{onLine, lastRead, firstRead, anyRead, sameBlock, readsOf, blockAt, stateAfter, nextRead, useful, accessed, evicted}
@@ -139,33 +141,30 @@ module _ (t : Task) (h : Lines) where
     unfolding firstRead
     first-more c = ap (firstRead (onLine t c)) (one-more t i j m hi hj is a ha) ∙ first-append (onLine t c) (readsSince t a (edge t i + j)) (m ∷ [])
 
-    -- it lies on no line
-    pub loaded-skip : ((d : ℕ) → onLine t d m ≡ false) → loadedBy t h a (suc (edge t i + j)) ≡ loadedBy t h a (edge t i + j)
-    unfolding loadedBy
-    loaded-skip at = count-agree 512 (λ c _. rw (first-more c, at c) (ap (λ (f : Line). h c && sameBlock (stateAfter t a c) f) (go c (anyRead (onLine t c) (readsSince t a (edge t i + j))) refl)))
-      where
-        go : (c : ℕ) (any : Bool) → anyRead (onLine t c) (readsSince t a (edge t i + j)) ≡ any
-            → cond any (firstRead (onLine t c) (readsSince t a (edge t i + j))) Empty ≡ firstRead (onLine t c) (readsSince t a (edge t i + j))
-        go c true e = refl
-        go c false e = sym (first-none (onLine t c) (readsSince t a (edge t i + j)) e)
-
-    -- it lies on this line: the region loads the line if it is of h and holds m since a block up to the region's edge
-    pub loaded-more : {held : List Line} {since : ℕ → ℕ} (line : ℕ) → line < 512 → ((d : ℕ) → onLine t d m ≡ eqb d line) → History t (edge t i + j) held since
-        → loadedBy t h a (suc (edge t i + j)) ≡ loadedBy t h a (edge t i + j) + bit (h line && sameBlock (getD held line Empty) (Held m) && leb (since line) a)
+    -- it lies on the line of this place, if any: the region loads the line if it is of h and holds m since a block up to the region's edge
+    pub loaded-more : {held : ℕ → Line} {since : ℕ → ℕ} (line : ℕ) → line < 513 → ((d : ℕ) → d < 512 → onLine t d m ≡ eqb d line) → h 512 ≡ false → History t (edge t i + j) held since
+        → loadedBy t h a (suc (edge t i + j)) ≡ loadedBy t h a (edge t i + j) + bit (h line && sameBlock (held line) (Held m) && leb (since line) a)
     unfolding loadedBy stateAfter
-    loaded-more {held} {since} line hl at w =
+    loaded-more {held} {since} line hl at behind w =
         let each = count-sum 512 (λ c. h c && sameBlock (stateAfter t a c) (firstRead (onLine t c) (readsSince t a (suc (edge t i + j))))) (λ c. false)
         (λ c. h c && sameBlock (stateAfter t a c) (firstRead (onLine t c) (readsSince t a (edge t i + j))))
-        (λ c. eqb c line && (h c && sameBlock (getD held c Empty) (Held m) && leb (since c) a)) line-by-line in
-        omega (arith, each, count-none 512 (λ c. false) (λ c _. refl), count-one 512 line (λ c. h c && sameBlock (getD held c Empty) (Held m) && leb (since c) a) hl)
+        (λ c. eqb c line && (h c && sameBlock (held c) (Held m) && leb (since c) a)) line-by-line in
+        omega (arith, each, count-none 512 (λ c. false) (λ c _. refl), one)
       where
+        one : countBelow 512 (λ c. eqb c line && (h c && sameBlock (held c) (Held m) && leb (since c) a)) ≡ bit (h line && sameBlock (held line) (Held m) && leb (since line) a)
+        one =
+            by-cases (decLt line 512) (λ l. count-one 512 line (λ c. h c && sameBlock (held c) (Held m) && leb (since c) a) l)
+            (λ l.
+            let last : line ≡ 512 = omega arith in
+            count-none 512 _ (λ c low. rw (ne-eqb c line (λ (e : c ≡ line). omega arith)) refl) ∙ sym (rw (last, behind) refl))
+
         line-by-line : (c : ℕ) → c < 512
             → bit (h c && sameBlock (stateAfter t a c) (firstRead (onLine t c) (readsSince t a (suc (edge t i + j))))) + bit false
             ≡ bit (h c && sameBlock (stateAfter t a c) (firstRead (onLine t c) (readsSince t a (edge t i + j)))) +
-            bit (eqb c line && (h c && sameBlock (getD held c Empty) (Held m) && leb (since c) a))
+            bit (eqb c line && (h c && sameBlock (held c) (Held m) && leb (since c) a))
         line-by-line c low =
-            rw (first-more c, ← (at c))
-            (one-line (onLine t c m) (h c) (anyRead (onLine t c) (readsSince t a (edge t i + j))) (stateAfter t a c) (getD held c Empty)
+            rw (first-more c, ← (at c low))
+            (one-line (onLine t c m) (h c) (anyRead (onLine t c) (readsSince t a (edge t i + j))) (stateAfter t a c) (held c)
             (firstRead (onLine t c) (readsSince t a (edge t i + j))) m (since c) a
-            (λ e. w .holds .states c low ∙ state-from t c a (edge t i + j) (omega (arith, edge-rises t a i ha)) e ∙ ap (lastRead (onLine t c) Empty) (take-edge t a))
+            (λ e. w .holds c low ∙ state-from t c a (edge t i + j) (omega (arith, edge-rises t a i ha)) e ∙ ap (lastRead (onLine t c) Empty) (take-edge t a))
             (first-none (onLine t c) (readsSince t a (edge t i + j))) (w .last c low a))

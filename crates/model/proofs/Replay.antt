@@ -220,11 +220,11 @@ module _ (t : Task) (i j m : ℕ) (hi : i < blockCount t) (hj : j < length (bloc
   misses-skip at = misses-one ∙ rw at (add-zero _)
 
   -- on a line it misses where the line does not hold it
-  pub misses-more : {held : List Line} (line : ℕ) → line < 512 → lineOf t m ≡ Cached line → Holds t (edge t i + j) held
+  pub misses-more : {held : ℕ → Line} (line : ℕ) → line < 512 → lineOf t m ≡ Cached line → Holds t (edge t i + j) held
       → misses t emptyCache (readsBefore t (suc (edge t i + j)))
-      ≡ misses t emptyCache (readsBefore t (edge t i + j)) + bit (not (sameBlock (getD held line Empty) (Held m)))
+      ≡ misses t emptyCache (readsBefore t (edge t i + j)) + bit (not (sameBlock (held line) (Held m)))
   unfolding miss
-  misses-more line hl at h = misses-one ∙ rw (at, after-line t emptyCache (readsBefore t (edge t i + j)) line, ← (h .states line hl)) refl
+  misses-more line hl at h = misses-one ∙ rw (at, after-line t emptyCache (readsBefore t (edge t i + j)) line, ← (h line hl)) refl
 
 -- an empty cache has nothing to lose
 empty-loses : (h : Lines) → emptied h emptyCache ≡ emptyCache

@@ -22,7 +22,7 @@ use Rattle.model.specs.declared.Line.{Line}
 use Rattle.model.specs.declared.Line.the-variants.{Empty, Held}
 use Rattle.model.proofs.Sets.{table-length, table-at}
 use Rattle.model.proofs.Charges.{FirstOf, first-of}
-use Rattle.model.proofs.Loads.{loadedBy, loaded-few, loaded-none, loaded-part, loaded-skip}
+use Rattle.model.proofs.Loads.{loadedBy, loaded-few, loaded-none, loaded-part}
 use Rattle.model.proofs.ReadOrder.{edge}
 use Rattle.reuse.specs.States.{markOf}
 use Rattle.pricing.proofs.Pricing.{regionsFrom, from-first, from-start, from-end, startOf}
@@ -118,30 +118,19 @@ module _ (t : Task) (most : preempterCount t ≤ 32) (line mark : ℕ) (is : mar
 -- read j of block i + 1, of number m
 module _ (t : Task) (i j m : ℕ) (hi : i < blockCount t) (hj : j < length (blockAt t i .reads)) (is : getD (blockAt t i .reads) j 0 ≡ m)
     {ps : List ℕ} {r : ℕ} {cs : List ℕ} (l : startOf t ps r ≤ i) (w : Charged t ps r (edge t i + j) cs) where
-  -- it lies on no line
-  pub charged-skip : ((d : ℕ) → onLine t d m ≡ false) → Charged t ps r (suc (edge t i + j)) cs
-  charged-skip at =
-      record {
-        behind = w .behind;
-        few = w .few;
-        long = w .long;
-        whole = w .whole;
-        here = λ k h. w .here k h ∙ rw (loaded-skip t (part t k) i j m hi hj is (startOf t ps r) l at) refl;
-      }
-
-  -- it lies on this line, which has this mark
-  pub charged-more : {held : List Line} {since : List ℕ} (known : Known t (edge t i + j) (suc i) r (startOf t ps r) held since) (line : ℕ) → line < 512
-      → ((d : ℕ) → onLine t d m ≡ eqb d line) → preempterCount t ≤ 32 → (mark n : ℕ) → mark ≡ markOf (firstTouching t line)
+  -- it lies on the line of this place, if any, which has this mark
+  pub charged-more : {held : List Line} {since : List ℕ} (known : Known t (edge t i + j) (suc i) r (startOf t ps r) held since) (line : ℕ) → line < 513
+      → ((d : ℕ) → d < 512 → onLine t d m ≡ eqb d line) → evicted t 512 ≡ false → preempterCount t ≤ 32 → (mark n : ℕ) → mark ≡ markOf (firstTouching t line)
       → n ≡ bit (evicted t line && sameBlock (getD held line Empty) (Held m) && ltb (getD since line 0) (suc r))
       → Charged t ps r (suc (edge t i + j)) (set cs (mark % 32) (getD cs (mark % 32) 0 + n))
-  charged-more {held} {since} known line hl at most mark n marked loads =
+  charged-more {held} {since} known line hl at behind most mark n marked loads =
       record {
         behind = w .behind;
         few = w .few;
         long = length-set cs (mark % 32) _ ∙ w .long;
         whole = w .whole;
         here = λ k h.
-            let more = known-loads t i j m hi hj is l known line hl at (part t k) in
+            let more = known-loads t i j m hi hj is l known line hl at (part t k) (rw behind refl) in
             let own = one-owner t most line mark marked k h (sameBlock (getD held line Empty) (Held m)) (ltb (getD since line 0) (suc r)) in
             by-cases (ℕ-discrete k (mark % 32))
             (λ q.

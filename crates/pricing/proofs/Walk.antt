@@ -23,7 +23,7 @@ use Rattle.model.specs.Regions.{regionLines}
 use Rattle.model.specs.declared.Line.{Line}
 use Rattle.model.specs.declared.Line.the-variants.{Empty, Held}
 use Rattle.model.specs.declared.Place.the-variants.{Nowhere}
-use Rattle.model.proofs.Histories.{History, history-none, history-skip, history-more}
+use Rattle.model.proofs.Histories.{History, history-none, history-more}
 use Rattle.model.proofs.Loads.{loadedBy, loaded-none, loaded-all, loaded-more}
 use Rattle.model.proofs.ReadOrder.{edge}
 use Rattle.pointlist.proofs.Points.{region-edges}
@@ -34,26 +34,28 @@ use Rattle.pricing.proofs.Pricing.{startOf}
 -- if an earlier region read it
 pub record Known (t : Task) (p k r a : ℕ) (held : List Line) (since : List ℕ) : Type 0 where
   pub last : ℕ → ℕ
-  pub history : History t p held last
-  pub recent : (c : ℕ) → c < 512 → last c ≤ k
-  pub long : length since ≡ 512
-  pub passed : (c : ℕ) → c < 512 → getD since c 0 ≤ suc r
-  pub earlier : (c : ℕ) → c < 512 → leb (last c) a ≡ ltb (getD since c 0) (suc r)
+  pub history : History t p (λ c. getD held c Empty) last
+  pub recent : (c : ℕ) → c < 513 → last c ≤ k
+  pub long-held : length held ≡ 513
+  pub long : length since ≡ 513
+  pub passed : (c : ℕ) → c < 513 → getD since c 0 ≤ suc r
+  pub earlier : (c : ℕ) → c < 513 → leb (last c) a ≡ ltb (getD since c 0) (suc r)
 
-pub known-none : (t : Task) → Known t (edge t 0) 0 0 0 (replicate 512 Empty) (replicate 512 0)
+pub known-none : (t : Task) → Known t (edge t 0) 0 0 0 (replicate 513 Empty) (replicate 513 0)
 unfolding readsOf
 known-none t =
     record {
       last = λ c. 0;
-      history = history-none t (λ c. 0);
+      history = history-none t (λ c. 0) (λ c h. getD-replicate 513 c Empty Empty (omega arith));
       recent = λ c h. omega arith;
+      long-held = refl;
       long = refl;
       passed = λ c h. rw (zeros c h) (omega arith);
       earlier = λ c h. rw (zeros c h) refl;
     }
   where
-    zeros : (c : ℕ) → c < 512 → _≡_ {A = ℕ} (getD (replicate 512 0) c 0) 0
-    zeros c h = getD-replicate {A = ℕ} 512 c 0 0 h
+    zeros : (c : ℕ) → c < 513 → _≡_ {A = ℕ} (getD (replicate 513 0) c 0) 0
+    zeros c h = getD-replicate {A = ℕ} 513 c 0 0 h
 
 module _ {t : Task} {p i r a : ℕ} {held : List Line} {since : List ℕ} (w : Known t p i r a held since) where
   -- a region starts at edge i, behind all reads
@@ -63,6 +65,7 @@ module _ {t : Task} {p i r a : ℕ} {held : List Line} {since : List ℕ} (w : K
         last = w .last;
         history = w .history;
         recent = w .recent;
+        long-held = w .long-held;
         long = w .long;
         passed = λ c h. omega (arith, w .passed c h);
         earlier = λ c h. rw (le-leb (w .last c) i (w .recent c h), lt-ltb (getD since c 0) (suc (r + 1)) (omega (arith, w .passed c h))) refl;
@@ -75,6 +78,7 @@ module _ {t : Task} {p i r a : ℕ} {held : List Line} {since : List ℕ} (w : K
         last = w .last;
         history = w .history;
         recent = λ c h. omega (arith, w .recent c h);
+        long-held = w .long-held;
         long = w .long;
         passed = w .passed;
         earlier = w .earlier;
@@ -83,27 +87,17 @@ module _ {t : Task} {p i r a : ℕ} {held : List Line} {since : List ℕ} (w : K
 -- read j of block i + 1, of number m
 module _ (t : Task) (i j m : ℕ) (hi : i < blockCount t) (hj : j < length (blockAt t i .reads)) (is : getD (blockAt t i .reads) j 0 ≡ m)
     {r a : ℕ} {held : List Line} {since : List ℕ} (l : a ≤ i) (w : Known t (edge t i + j) (suc i) r a held since) where
-  -- it lies on no line
-  pub known-skip : ((d : ℕ) → onLine t d m ≡ false) → Known t (suc (edge t i + j)) (suc i) r a held since
-  known-skip at =
-      record {
-        last = w .last;
-        history = history-skip t i j m hi hj is at (w .history);
-        recent = w .recent;
-        long = w .long;
-        passed = w .passed;
-        earlier = w .earlier;
-      }
-
-  -- it lies on this line
-  module _ (line : ℕ) (hl : line < 512) (at : (d : ℕ) → onLine t d m ≡ eqb d line) where
+  -- it lies on the line of this place, if any
+  module _ (line : ℕ) (hl : line < 513) (at : (d : ℕ) → d < 512 → onLine t d m ≡ eqb d line) where
     pub known-more : (s : ℕ) → s ≡ suc r → Known t (suc (edge t i + j)) (suc i) r a (set held line (Held m)) (set since line s)
     known-more s e =
         record {
           last = λ c. cond (eqb c line) (suc i) (w .last c);
           history =
-              history-more t i j m hi hj is line hl at (rw (eq-eqb line line refl) refl) (λ d n. rw (ne-eqb d line n) refl) (w .history);
+              history-more t i j m hi hj is line at (λ h. (getD-set-same held line (Held m) Empty (omega (arith, w .long-held)), rw (eq-eqb line line refl) refl))
+              (λ d n. (getD-set-other held line d (Held m) Empty n, rw (ne-eqb d line n) refl)) (w .history);
           recent = λ c h. by-cases (ℕ-discrete c line) (λ q. rw (eq-eqb c line q) (omega arith)) (λ n. rw (ne-eqb c line n) (w .recent c h));
+          long-held = length-set held line _ ∙ w .long-held;
           long = length-set since line s ∙ w .long;
           passed = λ c h. by-cases (ℕ-discrete c line) (λ q. rw (q, here) (omega arith)) (λ n. rw (there c n) (w .passed c h));
           earlier =
@@ -119,10 +113,10 @@ module _ (t : Task) (i j m : ℕ) (hi : i < blockCount t) (hj : j < length (bloc
         there : (c : ℕ) → (c ≡ line → ⊥) → getD (set since line s) c 0 ≡ getD since c 0
         there c n = getD-set-other since line c s 0 n
 
-    -- whether the region loads it, as a line of h
-    pub known-loads : (h : Lines) → loadedBy t h a (suc (edge t i + j))
+    -- whether the region loads it, as a line of h, which has none behind the lines
+    pub known-loads : (h : Lines) → h 512 ≡ false → loadedBy t h a (suc (edge t i + j))
         ≡ loadedBy t h a (edge t i + j) + bit (h line && sameBlock (getD held line Empty) (Held m) && ltb (getD since line 0) (suc r))
-    known-loads h = rw (← (w .earlier line hl)) (loaded-more t h i j m hi hj is a l line hl at (w .history))
+    known-loads h behind = rw (← (w .earlier line hl)) (loaded-more t h i j m hi hj is a l line hl at behind (w .history))
 
 module _ (t : Task) (ps : List ℕ) where
   -- at edge i, in region r, which ends at or after it

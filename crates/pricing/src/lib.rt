@@ -13,7 +13,6 @@ ghost use Rattle.model.specs.Answers.{onAccepted};
 ghost use Rattle.taskfile.specs.File.{IsAccepted, taskOf};
 ghost use Rattle.pricing.specs.Prices.{Prices, ChargedPrices, Loads};
 use model::Line;
-use model::Mapping;
 use model::Place;
 use model::Refusal;
 use model::Verdict;
@@ -83,10 +82,10 @@ pub fn count_lines(file: &[u8], points: &[u16], lines: &mut [u32; 64])
 {
     let cache = cacheline::geometry_of(file);
     let blocks = taskfile::block_count(file);
-    let mut evicted = [false; 512];
+    let mut evicted = [false; 513];
     reuse::mark_evicted(&mut evicted, file, cache);
-    let mut held = [Line::Empty; 512];
-    let mut since = [0u8; 512];
+    let mut held = [Line::Empty; 513];
+    let mut since = [0u8; 513];
     let mut region = 0;
     let mut count = 0u32;
     let mut i = 0;
@@ -101,15 +100,11 @@ pub fn count_lines(file: &[u8], points: &[u16], lines: &mut [u32; 64])
         let mut j = 0;
         while j < reads {
             let number = taskfile::read(file, k, j);
-            match cache.line_of(number) {
-                Mapping::Uncached => {}
-                Mapping::Cached(c) => {
-                    let line = held[c];
-                    count += loads(line, number, evicted[c], since[c] < here);
-                    held[c] = Line::Held(number);
-                    since[c] = here;
-                }
-            }
+            let place = cache.place_of(number);
+            let line = held[place];
+            count += loads(line, number, evicted[place], since[place] < here);
+            held[place] = Line::Held(number);
+            since[place] = here;
             j += 1;
         }
         lines[region] = count;
@@ -126,10 +121,10 @@ pub fn charge_lines(file: &[u8], points: &[u16], lines: &mut [u32; 64], charges:
 {
     let cache = cacheline::geometry_of(file);
     let blocks = taskfile::block_count(file);
-    let mut first = [32u8; 512];
+    let mut first = [32u8; 513];
     reuse::mark_first(&mut first, file, cache);
-    let mut held = [Line::Empty; 512];
-    let mut since = [0u8; 512];
+    let mut held = [Line::Empty; 513];
+    let mut since = [0u8; 513];
     let mut region = 0;
     let mut count = 0u32;
     let mut i = 0;
@@ -144,19 +139,15 @@ pub fn charge_lines(file: &[u8], points: &[u16], lines: &mut [u32; 64], charges:
         let mut j = 0;
         while j < reads {
             let number = taskfile::read(file, k, j);
-            match cache.line_of(number) {
-                Mapping::Uncached => {}
-                Mapping::Cached(c) => {
-                    let line = held[c];
-                    let mark = first[c];
-                    let loaded = loads(line, number, mark < 32, since[c] < here);
-                    let owner = (mark % 32) as usize;
-                    count += loaded;
-                    charges[owner] += loaded;
-                    held[c] = Line::Held(number);
-                    since[c] = here;
-                }
-            }
+            let place = cache.place_of(number);
+            let line = held[place];
+            let mark = first[place];
+            let loaded = loads(line, number, mark < 32, since[place] < here);
+            let owner = (mark % 32) as usize;
+            count += loaded;
+            charges[owner] += loaded;
+            held[place] = Line::Held(number);
+            since[place] = here;
             j += 1;
         }
         lines[region] = count;

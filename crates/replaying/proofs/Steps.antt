@@ -11,21 +11,21 @@ use native.Mathlib.Nat.{le-refl, add-zero}
 use native.Mathlib.Numerals.{add-one}
 use native.Mathlib.Omega.{arith}
 use lib.Dec.{eqb, leb, ltb}
-use lib.ListN.{length, getD, set, drop, replicate, length-set, List·getD-eq-default}
+use lib.ListN.{length, getD, set, drop, replicate, length-set, getD-replicate, List·getD-eq-default}
 use lib.Seq.{drop-cons, getD-drop, getD-set-same, getD-set-other, take-length}
-use borrow.Author.Tests.{eqb-true, eqb-false, ltb-true, lt-ltb}
+use borrow.Author.Tests.{ne-eqb, eqb-true, eqb-false, ltb-true, lt-ltb}
 use Rattle.model.specs.Sets.{bit}
 use Rattle.model.specs.Task.{Task, blockCount, lineCount}
-use Rattle.model.specs.Lines.{lineOf, sameBlock, readsOf, blockAt, evicted}
+use Rattle.model.specs.Lines.{lineOf, onLine, sameBlock, readsOf, blockAt, evicted}
 use Rattle.model.specs.Lists.{steps, every, rightPoint, regions, total, wellFormed}
 use Rattle.model.specs.Regions.{regionLines, lines}
 use Rattle.model.specs.Replay.{emptyCache, misses, missesAlone, missesWith}
 use Rattle.model.specs.declared.Line.{Line}
 use Rattle.model.specs.declared.Line.the-variants.{Empty, Held}
 use Rattle.model.specs.declared.Mapping.the-variants.{Uncached, Cached}
-use Rattle.model.proofs.Histories.{readsBefore, History, history-none, history-skip, history-more}
+use Rattle.model.proofs.Histories.{readsBefore, History, history-none, history-more}
 use Rattle.model.proofs.LineStates.{lies-on, lies-nowhere}
-use Rattle.model.proofs.Loads.{loadedBy, loaded-none, loaded-all, loaded-skip, loaded-more}
+use Rattle.model.proofs.Loads.{loadedBy, loaded-none, loaded-all, loaded-more}
 use Rattle.model.proofs.ReadOrder.{allReads, edge, edge-end}
 use Rattle.model.proofs.Replay.{misses-alone, misses-skip, misses-more, added-misses}
 use Rattle.replaying.specs.declared.Passed.{Passed}
@@ -44,8 +44,9 @@ lost-adds false l s m = omega arith
 module _ (t : Task) (ps : List ℕ) where
   -- after p reads, with the last point passed and the index of the next one
   pub record Replayed (p : ℕ) (passed : Passed) (held : List Line) (since : List ℕ) (alone preempted : ℕ) : Type 0 where
+    pub long-held : length held ≡ 512
     pub long-since : length since ≡ 512
-    pub history : History t p held (λ c. getD since c 0)
+    pub history : History t p (λ c. getD held c Empty) (λ c. getD since c 0)
     pub alone-is : alone ≡ misses t emptyCache (readsBefore t p)
     pub preempted-is : preempted + total (regionLines t) (regions (blockCount t) (passed .last) (drop (passed .next) ps)) ≡ alone + lines t ps + loadedBy t (evicted t) (passed .last) p
 
@@ -53,8 +54,9 @@ module _ (t : Task) (ps : List ℕ) where
   unfolding misses readsOf
   at-start =
       record {
+        long-held = refl;
         long-since = refl;
-        history = history-none t (λ c. getD (replicate 512 0) c 0);
+        history = history-none t (λ c. getD (replicate 512 0) c 0) (λ c h. getD-replicate 512 c Empty Empty h);
         alone-is = refl;
         preempted-is = omega (arith, loaded-none t (evicted t) 0);
       }
@@ -63,25 +65,31 @@ module _ (t : Task) (ps : List ℕ) where
   module _ {i j alone preempted : ℕ} {passed : Passed} {held : List Line} {since : List ℕ} (m : ℕ) (hi : i < blockCount t) (hj : j < length (blockAt t i .reads))
       (is : getD (blockAt t i .reads) j 0 ≡ m) (before : passed .last ≤ i) (w : Replayed (edge t i + j) passed held since alone preempted) where
     -- on no line
-    pub read-skip : lineOf t m ≡ Uncached → Replayed (suc (edge t i + j)) passed held since alone preempted
-    read-skip at =
+    pub read-skip : lineOf t m ≡ Uncached → evicted t 512 ≡ false → Replayed (suc (edge t i + j)) passed held since alone preempted
+    read-skip at behind =
         record {
+          long-held = w .long-held;
           long-since = w .long-since;
-          history = history-skip t i j m hi hj is (lies-nowhere t m at) (w .history);
+          history = history-more t i j m hi hj is 512 nowhere (λ l. absurd (omega arith)) (λ d n. (refl, refl)) (w .history);
           alone-is = w .alone-is ∙ sym (misses-skip t i j m hi hj is at);
-          preempted-is = rw (loaded-skip t (evicted t) i j m hi hj is (passed .last) before (lies-nowhere t m at)) (w .preempted-is);
+          preempted-is = omega (arith, w .preempted-is, rw behind at (loaded-more t (evicted t) i j m hi hj is (passed .last) before 512 (omega arith) nowhere behind (w .history)));
         }
+      where
+        nowhere : (d : ℕ) → d < 512 → onLine t d m ≡ eqb d 512
+        nowhere d l = lies-nowhere t m at d ∙ sym (ne-eqb d 512 (λ (e : d ≡ 512). omega arith))
 
     -- on this line; x and y are its misses
-    pub read-more : (line k x y : ℕ) → line < 512 → lineOf t m ≡ Cached line → k ≡ suc i → x ≡ bit (not (sameBlock (getD held line Empty) (Held m)))
+    pub read-more : (line k x y : ℕ) → line < 512 → lineOf t m ≡ Cached line → evicted t 512 ≡ false → k ≡ suc i → x ≡ bit (not (sameBlock (getD held line Empty) (Held m)))
         → y ≡ bit (not (sameBlock (cond (evicted t line && leb (getD since line 0) (passed .last)) Empty (getD held line Empty)) (Held m)))
         → Replayed (suc (edge t i + j)) passed (set held line (Held m)) (set since line k) (alone + x) (preempted + y)
-    read-more line k x y hl at ek ex ey =
+    read-more line k x y hl at behind ek ex ey =
         record {
+          long-held = length-set held line _ ∙ w .long-held;
           long-since = length-set since line _ ∙ w .long-since;
           history =
-              history-more t i j m hi hj is line hl (lies-on t m line at) (getD-set-same since line k 0 (omega (arith, w .long-since)) ∙ ek)
-              (λ d n. getD-set-other since line d k 0 n) (w .history);
+              history-more t i j m hi hj is line (λ d l. lies-on t m line at d)
+              (λ l. (getD-set-same held line (Held m) Empty (omega (arith, w .long-held)), getD-set-same since line k 0 (omega (arith, w .long-since)) ∙ ek))
+              (λ d n. (getD-set-other held line d (Held m) Empty n, getD-set-other since line d k 0 n)) (w .history);
           alone-is = omega (arith, w .alone-is, ex, misses-more t i j m hi hj is line hl at (w .history .holds));
           preempted-is =
               omega (
@@ -90,7 +98,7 @@ module _ (t : Task) (ps : List ℕ) where
                 ex,
                 ey,
                 lost-adds (evicted t line) (leb (getD since line 0) (passed .last)) (getD held line Empty) m,
-                loaded-more t (evicted t) i j m hi hj is (passed .last) before line hl (lies-on t m line at) (w .history),
+                loaded-more t (evicted t) i j m hi hj is (passed .last) before line (omega arith) (λ d l. lies-on t m line at d) behind (w .history),
               );
         }
 
@@ -132,6 +140,7 @@ module _ (t : Task) (ps : List ℕ) where
             let split : drop (passed .next) ps ≡ suc i ∷ drop (passed .next + 1) ps = drop-cons ps (passed .next) 0 inside ∙ rw (is, add-one) refl in
             rw q (
               record {
+                long-held = w .long-held;
                 long-since = w .long-since;
                 history = w .history;
                 alone-is = w .alone-is;

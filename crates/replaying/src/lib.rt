@@ -65,10 +65,10 @@ fn count_misses(file: &[u8], points: &[u16]) -> Misses
 {
     let cache = cacheline::geometry_of(file);
     let blocks = taskfile::block_count(file);
-    let mut evicted = [false; 512];
+    let mut evicted = [false; 513];
     reuse::mark_evicted(&mut evicted, file, cache);
     let mut held = [Line::Empty; 512];
-    let mut since = [0usize; 512];
+    let mut since = [0u8; 512];
     let mut alone = 0u32;
     let mut preempted = 0u32;
     let mut passed = Passed { next: 0, last: 0 };
@@ -88,7 +88,7 @@ fn count_misses(file: &[u8], points: &[u16]) -> Misses
                     alone += missed(line, number, false);
                     preempted += missed(line, number, lost);
                     held[c] = Line::Held(number);
-                    since[c] = k;
+                    since[c] = k as u8;
                 }
             }
             j += 1;
@@ -104,10 +104,10 @@ fn count_misses(file: &[u8], points: &[u16]) -> Misses
 }
 
 // Whether a line is of H and was not read since the last point.
-fn is_lost(evicted: bool, since: usize, last: usize) -> bool
+fn is_lost(evicted: bool, since: u8, last: usize) -> bool
     ensures { λ r. ⌜ r ≡ (evicted && leb since last) ⌝ }
 {
-    evicted & (since <= last)
+    evicted & (since as usize <= last)
 }
 
 // 1 for a miss and 0 for a hit: a read of this number on a line, which is empty if it is lost.

@@ -19,8 +19,8 @@ use Rattle.model.specs.Lines.{onLine, sameBlock, readsOf, blockAt, evicted}
 use Rattle.model.specs.Regions.{newLines}
 use Rattle.model.specs.declared.Line.{Line}
 use Rattle.model.specs.declared.Line.the-variants.{Empty, Held}
-use Rattle.model.proofs.Histories.{History, history-none, history-skip, history-more}
-use Rattle.model.proofs.Loads.{loadedBy, loaded-all, loaded-skip, loaded-more}
+use Rattle.model.proofs.Histories.{History, history-none, history-more}
+use Rattle.model.proofs.Loads.{loadedBy, loaded-all, loaded-more}
 use Rattle.model.proofs.ReadOrder.{edge, edge-suc}
 use Rattle.model.proofs.Regions.{region-longer}
 use Rattle.reuse.specs.Counts.{rowSum}
@@ -33,22 +33,24 @@ pub record Row (t : Task) (counts : List ℕ) (r q : ℕ) : Type 0 where
 
 -- after p reads, the last of them in block i + 1 or before it
 pub record Counting (t : Task) (i p : ℕ) (held : List Line) (since counts : List ℕ) : Type 0 where
-  pub long-since : length since ≡ 512
+  pub long-held : length held ≡ 513
+  pub long-since : length since ≡ 513
   pub long : length counts ≡ 4096
-  pub history : History t p held (λ c. suc (getD since c 0))
-  pub recent : (c : ℕ) → c < 512 → getD since c 0 ≤ i
+  pub history : History t p (λ c. getD held c Empty) (λ c. suc (getD since c 0))
+  pub recent : (c : ℕ) → c < 513 → getD since c 0 ≤ i
   pub passed : (r : ℕ) → r < i → Row t counts r (edge t (suc r))
   pub here : Row t counts i p
   pub ahead : (r : ℕ) → i < r → Row t counts r (edge t r)
 
-pub counting-none : (t : Task) → Counting t 0 (edge t 0) (replicate 512 Empty) (replicate 512 0) (replicate 4096 0)
+pub counting-none : (t : Task) → Counting t 0 (edge t 0) (replicate 513 Empty) (replicate 513 0) (replicate 4096 0)
 unfolding readsOf
 counting-none t =
     record {
+      long-held = refl;
       long-since = refl;
       long = refl;
-      history = history-none t (λ c. suc (getD (replicate 512 0) c 0));
-      recent = λ c h. rw (getD-replicate {A = ℕ} 512 c 0 0 h) (omega arith);
+      history = history-none t (λ c. suc (getD (replicate 513 0) c 0)) (λ c h. getD-replicate 513 c Empty Empty (omega arith));
+      recent = λ c h. rw (getD-replicate {A = ℕ} 513 c 0 0 h) (omega arith);
       passed = λ r h. absurd (omega arith);
       here = zeros 0;
       ahead = λ r h. zeros r;
@@ -58,7 +60,7 @@ counting-none t =
     zeros r = record { loads = λ a h l. rw (row-zeros 4096 r a) (omega arith); few = rw (row-zeros 4096 r 64) (omega arith) }
 
 -- a line's count is at most the reads of the block that are passed
-pub count-small : (t : Task) (i p line : ℕ) {held : List Line} {since counts : List ℕ} → i < 64 → line < 512 → Counting t i p held since counts
+pub count-small : (t : Task) (i p line : ℕ) {held : List Line} {since counts : List ℕ} → i < 64 → line < 513 → Counting t i p held since counts
     → getD counts (64 * i + getD since line 0) 0 + edge t i ≤ p
 count-small t i p line {since = since} {counts} hi hl w =
     omega (arith, row-within counts i (getD since line 0) (omega (arith, w .recent line hl)), w .here .few)
@@ -76,25 +78,8 @@ looked b false = ap bit (sym (and-false b))
 -- read j of block i + 1, of number m
 module _ (t : Task) (i j m : ℕ) (hi : i < blockCount t) (hj : j < length (blockAt t i .reads)) (is : getD (blockAt t i .reads) j 0 ≡ m)
     {held : List Line} {since counts : List ℕ} (w : Counting t i (edge t i + j) held since counts) where
-  -- it lies on no line
-  pub counting-skip : ((d : ℕ) → onLine t d m ≡ false) → Counting t i (suc (edge t i + j)) held since counts
-  counting-skip at =
-      record {
-        long-since = w .long-since;
-        long = w .long;
-        history = history-skip t i j m hi hj is at (w .history);
-        recent = w .recent;
-        passed = w .passed;
-        here =
-            record {
-              loads = λ a h l. w .here .loads a h l ∙ sym (loaded-skip t (evicted t) i j m hi hj is a h at);
-              few = omega (arith, w .here .few);
-            };
-        ahead = w .ahead;
-      }
-
-  -- it lies on this line: x is counted at the column of the block that read the line last
-  module _ (line x : ℕ) (hl : line < 512) (at : (d : ℕ) → onLine t d m ≡ eqb d line) (few-blocks : blockCount t ≤ 64)
+  -- it lies on the line of this place, if any: x is counted at the column of the block that read the line last
+  module _ (line x : ℕ) (hl : line < 513) (at : (d : ℕ) → d < 512 → onLine t d m ≡ eqb d line) (behind : evicted t 512 ≡ false) (few-blocks : blockCount t ≤ 64)
       (counted : x ≡ bit (evicted t line && sameBlock (getD held line Empty) (Held m))) (one : x ≤ 1) where
     abbrev column : ℕ
     column = getD since line 0
@@ -108,11 +93,13 @@ module _ (t : Task) (i j m : ℕ) (hi : i < blockCount t) (hj : j < length (bloc
     pub counting-more : Counting t i (suc (edge t i + j)) (set held line (Held m)) (set since line i) (set counts (64 * i + column) (getD counts (64 * i + column) 0 + x))
     counting-more =
         record {
+          long-held = length-set held line (Held m) ∙ w .long-held;
           long-since = length-set since line i ∙ w .long-since;
           long = length-set counts _ _ ∙ w .long;
           history =
-              history-more t i j m hi hj is line hl at (ap suc (getD-set-same since line i 0 (omega (arith, w .long-since))))
-              (λ d n. ap suc (getD-set-other since line d i 0 n)) (w .history);
+              history-more t i j m hi hj is line at
+              (λ l. (getD-set-same held line (Held m) Empty (omega (arith, w .long-held)), ap suc (getD-set-same since line i 0 (omega (arith, w .long-since)))))
+              (λ d n. (getD-set-other held line d (Held m) Empty n, ap suc (getD-set-other since line d i 0 n))) (w .history);
           recent =
               λ c h.
               by-cases (ℕ-discrete c line) (λ e. rw (e, getD-set-same since line i 0 (omega (arith, w .long-since))) (le-refl i))
@@ -122,7 +109,7 @@ module _ (t : Task) (i j m : ℕ) (hi : i < blockCount t) (hj : j < length (bloc
               record {
                 loads =
                     λ a h l.
-                    rw (row-more counts i column x in-row in-counts a, loaded-more t (evicted t) i j m hi hj is a h line hl at (w .history), counted, looked _ (ltb column a))
+                    rw (row-more counts i column x in-row in-counts a, loaded-more t (evicted t) i j m hi hj is a h line hl at behind (w .history), counted, looked _ (ltb column a))
                     (omega (arith, w .here .loads a h l));
                 few = rw (row-more counts i column x in-row in-counts 64, lt-ltb column 64 in-row) (omega (arith, w .here .few));
               };
@@ -134,6 +121,7 @@ pub counting-block : (t : Task) (i : ℕ) {held : List Line} {since counts : Lis
     → Counting t (suc i) (edge t (suc i)) held since counts
 counting-block t i {counts = counts} w =
     record {
+      long-held = w .long-held;
       long-since = w .long-since;
       long = w .long;
       history = w .history;

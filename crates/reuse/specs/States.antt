@@ -1,4 +1,4 @@
--- What arrays of 512 entries say of a cache's lines. Assumes nothing.
+-- What arrays of 512 entries, or of one more behind them, say of a cache's lines. Assumes nothing.
 use Prim.Native.Nat.{ℕ, zero, suc, _-_, _≤_, _<_}
 use mathlib.Core.Path.{_≡_}
 use mathlib.Core.Bool.{Bool, false, cond, _&&_, _||_}
@@ -33,7 +33,7 @@ markOf (At i) = i
 
 -- the first preempter that touches each line
 abbrev pub FirstMarks : Task → List ℕ → Type 0
-FirstMarks t marks = (length marks ≡ 512) × ((c : ℕ) → c < 512 → getD marks c 0 ≡ markOf (firstTouching t c))
+FirstMarks t marks = (length marks ≡ 513) × ((c : ℕ) → c < 513 → getD marks c 0 ≡ markOf (firstTouching t c))
 
 -- the first of the n blocks after block k that reads line c, or 0 if none does
 unfoldable pub firstReader : Task → ℕ → ℕ → ℕ → ℕ

@@ -365,15 +365,15 @@ pub fn evicted_lines(file: &[u8]) -> LineSet
     ensures { λ r. ⌜ ((c : ℕ) → members r c ≡ evicted (taskOf (now (file .entry))) c) ⌝ }
 {
     let cache = cacheline::geometry_of(file);
-    let mut marks = [false; 512];
+    let mut marks = [false; 513];
     mark_evicted(&mut marks, file, cache);
     marked_lines(&marks, cache.line_count as usize)
 }
 
-// Marks the lines of H; the array is lent with no mark.
-pub fn mark_evicted(marks: &mut [bool; 512], file: &[u8], cache: Geometry)
-    requires { ⌜ (now marks ≡ replicate 512 false) × IsAccepted (now file) × GeometryOf (taskOf (now file)) cache ⌝ }
-    ensures { λ _. ⌜ length (now (marks .exit)) ≡ 512 ⌝ }
+// Marks the lines of H; the array is lent with no mark. Numbers on no line mark the place behind the lines, which is cleared at the end.
+pub fn mark_evicted(marks: &mut [bool; 513], file: &[u8], cache: Geometry)
+    requires { ⌜ (now marks ≡ replicate 513 false) × IsAccepted (now file) × GeometryOf (taskOf (now file)) cache ⌝ }
+    ensures { λ _. ⌜ length (now (marks .exit)) ≡ 513 ⌝ }
     ensures { λ _. ⌜ ((d : ℕ) → getD (now (marks .exit)) d false ≡ evicted (taskOf (now (file .entry))) d) ⌝ }
 {
     let first = taskfile::block_count(file) + 1;
@@ -383,41 +383,30 @@ pub fn mark_evicted(marks: &mut [bool; 512], file: &[u8], cache: Geometry)
         mark_reads(marks, file, cache, k);
         k += 1;
     }
+    marks[512] = false;
 }
 
-// Marks the lines that block k of the file reads.
-fn mark_reads(marks: &mut [bool; 512], file: &[u8], cache: Geometry, k: usize)
-    requires { ⌜ length (now marks) ≡ 512 ⌝ }
+// Marks the lines that block k of the file reads, and perhaps the place behind them.
+fn mark_reads(marks: &mut [bool; 513], file: &[u8], cache: Geometry, k: usize)
+    requires { ⌜ length (now marks) ≡ 513 ⌝ }
     requires { ⌜ IsAccepted (now file) × (1 ≤ k) × (k ≤ counts (now file) .blocks + counts (now file) .preempters) ⌝ }
     requires { ⌜ GeometryOf (taskOf (now file)) cache ⌝ }
-    ensures { λ _. ⌜ length (now (marks .exit)) ≡ 512 ⌝ }
+    ensures { λ _. ⌜ length (now (marks .exit)) ≡ 513 ⌝ }
     ensures { λ _. ⌜ MarkedToo (λ d. anyRead (onLine (taskOf (now (file .entry))) d) (entryReads (now (file .entry)) k)) (now (marks .entry)) (now (marks .exit)) ⌝ }
 {
     let reads = taskfile::read_count(file, k);
     let mut j = 0;
     while j < reads {
-        let mapping = cache.line_of(taskfile::read(file, k, j));
-        mark(marks, mapping);
+        let place = cache.place_of(taskfile::read(file, k, j));
+        marks[place] = true;
         j += 1;
     }
 }
 
-// Marks a line, if there is one.
-fn mark(marks: &mut [bool; 512], mapping: Mapping)
-    requires { ⌜ (length (now marks) ≡ 512) × WithinCache mapping ⌝ }
-    ensures { λ _. ⌜ length (now (marks .exit)) ≡ 512 ⌝ }
-    ensures { λ _. ⌜ MarkedToo (λ d. isLine d mapping) (now (marks .entry)) (now (marks .exit)) ⌝ }
-{
-    match mapping {
-        Mapping::Uncached => {}
-        Mapping::Cached(c) => marks[c] = true,
-    }
-}
-
 // Marks each line with the first preempter that touches it, from 0; the array is lent with 32 everywhere, which stays where there is none. The
-// preempters come last to first, so that each overwrites those behind it.
-pub fn mark_first(marks: &mut [u8; 512], file: &[u8], cache: Geometry)
-    requires { ⌜ (now marks ≡ replicate 512 32) × IsAccepted (now file) × GeometryOf (taskOf (now file)) cache ⌝ }
+// preempters come last to first, so that each overwrites those behind it. The place behind the lines has none at the end.
+pub fn mark_first(marks: &mut [u8; 513], file: &[u8], cache: Geometry)
+    requires { ⌜ (now marks ≡ replicate 513 32) × IsAccepted (now file) × GeometryOf (taskOf (now file)) cache ⌝ }
     ensures { λ _. ⌜ FirstMarks (taskOf (now (file .entry))) (now (marks .exit)) ⌝ }
 {
     let start = taskfile::block_count(file) + 1;
@@ -426,40 +415,29 @@ pub fn mark_first(marks: &mut [u8; 512], file: &[u8], cache: Geometry)
         i -= 1;
         mark_reads_by(marks, file, cache, start + i, i as u8);
     }
+    marks[512] = 32;
 }
 
-// Marks the lines that block k of the file reads with this number.
-fn mark_reads_by(marks: &mut [u8; 512], file: &[u8], cache: Geometry, k: usize, by: u8)
-    requires { ⌜ length (now marks) ≡ 512 ⌝ }
+// Marks the lines that block k of the file reads with this number, and perhaps the place behind them.
+fn mark_reads_by(marks: &mut [u8; 513], file: &[u8], cache: Geometry, k: usize, by: u8)
+    requires { ⌜ length (now marks) ≡ 513 ⌝ }
     requires { ⌜ IsAccepted (now file) × (1 ≤ k) × (k ≤ counts (now file) .blocks + counts (now file) .preempters) ⌝ }
     requires { ⌜ GeometryOf (taskOf (now file)) cache ⌝ }
-    ensures { λ _. ⌜ length (now (marks .exit)) ≡ 512 ⌝ }
+    ensures { λ _. ⌜ length (now (marks .exit)) ≡ 513 ⌝ }
     ensures { λ _. ⌜ MarkedBy (λ d. anyRead (onLine (taskOf (now (file .entry))) d) (entryReads (now (file .entry)) k)) by (now (marks .entry)) (now (marks .exit)) ⌝ }
 {
     let reads = taskfile::read_count(file, k);
     let mut j = 0;
     while j < reads {
-        let mapping = cache.line_of(taskfile::read(file, k, j));
-        mark_by(marks, mapping, by);
+        let place = cache.place_of(taskfile::read(file, k, j));
+        marks[place] = by;
         j += 1;
     }
 }
 
-// Marks a line with this number, if there is one.
-fn mark_by(marks: &mut [u8; 512], mapping: Mapping, by: u8)
-    requires { ⌜ (length (now marks) ≡ 512) × WithinCache mapping ⌝ }
-    ensures { λ _. ⌜ length (now (marks .exit)) ≡ 512 ⌝ }
-    ensures { λ _. ⌜ MarkedBy (λ d. isLine d mapping) by (now (marks .entry)) (now (marks .exit)) ⌝ }
-{
-    match mapping {
-        Mapping::Uncached => {}
-        Mapping::Cached(c) => marks[c] = by,
-    }
-}
-
 // The set of the lines below count that are marked.
-fn marked_lines(marks: &[bool; 512], count: usize) -> LineSet
-    requires { ⌜ (length (now marks) ≡ 512) × (count ≤ 512) ⌝ }
+fn marked_lines(marks: &[bool; 513], count: usize) -> LineSet
+    requires { ⌜ (length (now marks) ≡ 513) × (count ≤ 512) ⌝ }
     ensures { λ r. ⌜ ((d : ℕ) → members r d ≡ (ltb d count && getD (now (marks .entry)) d false)) ⌝ }
 {
     let mut set = LineSet::empty();
@@ -485,7 +463,7 @@ pub fn count_new_lines(file: &[u8], counts: &mut [u8; 4096])
     ensures { λ _. ⌜ NewLines (now (file .entry)) (now (counts .exit)) ⌝ }
 {
     let cache = cacheline::geometry_of(file);
-    let mut evicted = [false; 512];
+    let mut evicted = [false; 513];
     mark_evicted(&mut evicted, file, cache);
     count_rereads(file, cache, &evicted, counts);
     sum_rows(counts, taskfile::block_count(file));
@@ -493,15 +471,15 @@ pub fn count_new_lines(file: &[u8], counts: &mut [u8; 4096])
 
 // One walk over the reads: what each line holds, and the block, from 0, that read it last. A read of the number that a line of H holds is
 // counted in the row of its own block, at the column of that block.
-fn count_rereads(file: &[u8], cache: Geometry, evicted: &[bool; 512], counts: &mut [u8; 4096])
+fn count_rereads(file: &[u8], cache: Geometry, evicted: &[bool; 513], counts: &mut [u8; 4096])
     requires { ⌜ IsAccepted (now file) × GeometryOf (taskOf (now file)) cache ⌝ }
-    requires { ⌜ (length (now evicted) ≡ 512) × ((d : ℕ) → getD (now evicted) d false ≡ Lines.evicted (taskOf (now file)) d) ⌝ }
+    requires { ⌜ (length (now evicted) ≡ 513) × ((d : ℕ) → getD (now evicted) d false ≡ Lines.evicted (taskOf (now file)) d) ⌝ }
     requires { ⌜ now counts ≡ replicate 4096 0 ⌝ }
     ensures { λ _. ⌜ Rereads (now (file .entry)) (now (counts .exit)) ⌝ }
 {
     let blocks = taskfile::block_count(file);
-    let mut held = [Line::Empty; 512];
-    let mut since = [0u8; 512];
+    let mut held = [Line::Empty; 513];
+    let mut since = [0u8; 513];
     let mut i = 0;
     while i < blocks {
         let b = i + 1;
@@ -509,16 +487,12 @@ fn count_rereads(file: &[u8], cache: Geometry, evicted: &[bool; 512], counts: &m
         let mut j = 0;
         while j < reads {
             let number = taskfile::read(file, b, j);
-            match cache.line_of(number) {
-                Mapping::Uncached => {}
-                Mapping::Cached(c) => {
-                    let line = held[c];
-                    let at = 64 * i + since[c] as usize;
-                    counts[at] += reread(line, number, evicted[c]);
-                    held[c] = Line::Held(number);
-                    since[c] = i as u8;
-                }
-            }
+            let place = cache.place_of(number);
+            let line = held[place];
+            let at = 64 * i + since[place] as usize;
+            counts[at] += reread(line, number, evicted[place]);
+            held[place] = Line::Held(number);
+            since[place] = i as u8;
             j += 1;
         }
         i += 1;

@@ -2,24 +2,27 @@
 -- Assumes nothing.
 use Prim.Native.Nat.{suc, _+_, _-_, _%_, _≤_, _<_}
 use mathlib.Core.Path.{_≡_, refl, sym, ap, ap₂, _∙_}
+use mathlib.Core.Bool.{_&&_}
 use mathlib.Core.Logic.{⊎-elim}
 use native.Mathlib.Nat.{add-zero}
 use native.Mathlib.Omega.{arith}
 use native.Mathlib.Numerals.{add-one}
+use lib.Dec.{ltb}
 use lib.ListN.{length, getD, List·getD-eq-default}
 use borrow.Author.Needs.{needs}
 use Rattle.model.specs.Task.{blockCount, preempterCount}
-use Rattle.model.specs.Lines.{blockAt, evicted}
-use Rattle.model.proofs.LineStates.{lies-on, lies-nowhere}
-use Rattle.model.proofs.Loads.{loadedBy, loaded-few, loaded-skip}
+use Rattle.model.specs.Sets.{bit}
+use Rattle.model.specs.Lines.{blockAt, sameBlock, evicted}
+use Rattle.model.specs.declared.Line.the-variants.{Empty, Held}
+use Rattle.model.proofs.Loads.{loadedBy, loaded-few}
 use Rattle.model.proofs.ReadOrder.{edge, edge-suc}
 use Rattle.taskfile.specs.File.{taskOf}
 use Rattle.taskfile.proofs.Accepted as accepted-file
-use Rattle.cacheline.proofs.Below.{line-below}
+use Rattle.cacheline.proofs.Below.{evicted-behind}
 use Rattle.pricing.proofs.Pricing.{startOf}
-use Rattle.pricing.proofs.Walk.{Known, known-none, known-region, known-block, known-skip, known-more, known-loads}
+use Rattle.pricing.proofs.Walk.{Known, known-none, known-region, known-block, known-more, known-loads}
 use Rattle.pricing.proofs.Walk.{AtEdge, at-start, edges, next-region, next-edge, at-last, at-end}
-use Rattle.pricing.proofs.Charging.{Charged, charged-none, charged-few, charged-region, charged-all, mark-tells, charged-skip, charged-more}
+use Rattle.pricing.proofs.Charging.{Charged, charged-none, charged-few, charged-region, charged-all, mark-tells, charged-more}
 use Rattle.pricing.proofs.charge_lines.Statement.{statement}
 use Rattle.pricing.proofs.charge_lines.Tie as tie
 
@@ -127,30 +130,20 @@ read-requires c κs =
     let start = c .before .before .before .before .before .before .before .before .before .before .before .before .before .before in
     ((start .pre .0, omega arith, omega (arith, accepted-file.block-count (start .args .file .now))), omega arith)
 
-line-of-requires : tie.Need-line-of-requires Inv-loop2 μ-loop2 Inv-loop μ-loop
-line-of-requires c κs = search needs
-
-enum-told : tie.Need-enum-told Inv-loop2 μ-loop2 Inv-loop μ-loop
-enum-told c = search needs
-
-enum-known-c : tie.Need-enum-known-c Inv-loop2 μ-loop2 Inv-loop μ-loop
-enum-known-c c = search needs
-
--- the line is one of the arrays
-below : (c : tie.After-known-told Inv-loop2 μ-loop2 Inv-loop μ-loop) → c .before .c .given .0 .0 < 512
-below c = let line = c .before .before .before .line-of in line-below (line .result) (c .before .c .given .0 .0) (c .before .c .given .1) (line .ensures .1)
+place-of-requires : tie.Need-place-of-requires Inv-loop2 μ-loop2 Inv-loop μ-loop
+place-of-requires c κs = search needs
 
 mul-line : tie.Need-mul-line Inv-loop2 μ-loop2 Inv-loop μ-loop
-mul-line c = omega (arith, below c)
+mul-line c = omega (arith, c .place-of .ensures .1)
 
 array-copy-out-line : tie.Need-array-copy-out-line Inv-loop2 μ-loop2 Inv-loop μ-loop
-array-copy-out-line c = omega (arith, below c)
+array-copy-out-line c = omega (arith, c .place-of .ensures .1)
 
 array-read-mark : tie.Need-array-read-mark Inv-loop2 μ-loop2 Inv-loop μ-loop
-array-read-mark c = omega (arith, below (c .before))
+array-read-mark c = omega (arith, c .before .place-of .ensures .1)
 
 array-read-loads : tie.Need-array-read-loads Inv-loop2 μ-loop2 Inv-loop μ-loop
-array-read-loads c = omega (arith, below (c .before))
+array-read-loads c = omega (arith, c .before .place-of .ensures .1)
 
 loads-requires : tie.Need-loads-requires Inv-loop2 μ-loop2 Inv-loop μ-loop
 loads-requires c κs = search needs
@@ -160,10 +153,11 @@ cast-owner c = search needs
 
 add-count : tie.Need-add-count Inv-loop2 μ-loop2 Inv-loop μ-loop
 add-count c =
-    let inner = c .before .before .before .before .before .before .before .before .before .loop2 in
-    let args = c .before .before .before .before .before .before .before .before .before .before .before .before .before .before .before .before .before .before .before .before .before .before .args in
+    let inner = c .before .before .before .before .before .before .loop2 in
+    let joined = c .before .before .before .before .before .before .before .before .before in
+    let args = joined .before .before .before .before .before .before .before .before .before .before .args in
     let t = taskOf (args .file .now) in
-    omega (arith, c .before .loads .ensures .1, inner .inv .2, loaded-few t (evicted t) (startOf t (args .points .now) (c .before .before .before .before .before .before .before .before .before .before .before .before .if1 .region)) (edge t (c .before .before .before .before .before .before .before .before .before .before .before .before .before .before .before .loop .i) + inner .j))
+    omega (arith, c .before .loads .ensures .1, inner .inv .2, loaded-few t (evicted t) (startOf t (args .points .now) (joined .if1 .region)) (edge t (joined .before .before .before .loop .i) + inner .j))
 
 mul-charges : tie.Need-mul-charges Inv-loop2 μ-loop2 Inv-loop μ-loop
 mul-charges c = omega arith
@@ -173,22 +167,22 @@ element-copy-out-charges c = omega arith
 
 add-charges : tie.Need-add-charges Inv-loop2 μ-loop2 Inv-loop μ-loop
 add-charges c =
-    let inner = c .before .before .before .before .before .before .before .before .before .before .loop2 in
-    let joined = c .before .before .before .before .before .before .before .before .before .before .before .before .before in
-    let mark = getD (joined .before .before .before .before .mark-first .last .0) (c .before .before .before .before .before .c .given .0 .0) 0 in
+    let inner = c .before .before .before .before .before .before .before .loop2 in
+    let joined = c .before .before .before .before .before .before .before .before .before .before in
+    let mark = getD (joined .before .before .before .before .mark-first .last .0) (c .before .before .before .before .place-of .result) 0 in
     omega (arith, c .before .before .loads .ensures .1, few joined, charged-few (inner .inv .3) (mark % 32) (omega arith))
 
 element-write-charges : tie.Need-element-write-charges Inv-loop2 μ-loop2 Inv-loop μ-loop
 element-write-charges c = omega arith
 
 mul-held : tie.Need-mul-held Inv-loop2 μ-loop2 Inv-loop μ-loop
-mul-held c = omega (arith, below (c .before .before .before .before))
+mul-held c = omega (arith, c .before .before .before .before .place-of .ensures .1)
 
 array-set-from-held : tie.Need-array-set-from-held Inv-loop2 μ-loop2 Inv-loop μ-loop
-array-set-from-held c = omega (arith, below (c .before .before .before .before))
+array-set-from-held c = omega (arith, c .before .before .before .before .place-of .ensures .1)
 
 array-write-since : tie.Need-array-write-since Inv-loop2 μ-loop2 Inv-loop μ-loop
-array-write-since c = omega (arith, below (c .before .before .before .before))
+array-write-since c = omega (arith, c .before .before .before .before .place-of .ensures .1)
 
 add-j : tie.Need-add-j Inv-loop2 μ-loop2 Inv-loop μ-loop
 add-j c = omega arith
@@ -198,7 +192,8 @@ loop2-less c = omega arith
 
 loop2-again : tie.Need-loop2-again Inv-loop2 μ-loop2 Inv-loop μ-loop
 loop2-again c =
-    let turn = c .before .before .before in
+    let placed = c .before .before .before .before in
+    let turn = placed .before .before in
     let inner = turn .before .loop2 in
     let joined = turn .before .before .before .before in
     let outer = joined .before .before .before .loop in
@@ -208,8 +203,8 @@ loop2-again c =
     let inside-region = entered joined .0 .passed in
     let cache = joined .before .before .before .before .before .before .before .geometry-of in
     let marks = joined .before .before .before .before .mark-first in
-    let number = c .before .before .read in
-    let line = c .before .line-of in
+    let number = placed .before .read in
+    let place = placed .place-of in
     let taken = turn .loop2-test .taken in
     let inside : outer .i < blockCount t =
     omega (arith, joined .before .before .loop-test .taken, joined .before .before .before .before .before .before .block-count .ensures .0) in
@@ -217,31 +212,20 @@ loop2-again c =
     let counted : inner .j < length (blockAt t (outer .i) .reads) = rw reads-are (omega (arith, taken, turn .before .before .read-count .ensures .0)) in
     let number-is : getD (blockAt t (outer .i) .reads) (inner .j) 0 ≡ number .result = rw reads-are (sym (number .ensures)) in
     let next : edge t (outer .i) + (inner .j + 1) ≡ suc (edge t (outer .i) + inner .j) = omega arith in
-    let is = sym (line .ensures .0 t (cache .ensures)) in
+    let lies = place .ensures .0 t (cache .ensures) in
     let most : preempterCount t ≤ 32 = omega (arith, accepted-file.preempter-count file, accepted-file.accepted file (start .pre .0) .preempters-most) in
-    ⊎-elim
-    (λ w.
-    let nowhere = lies-nowhere t (number .result) (is ∙ w .1 .given .1) in
-    rw (w .2, w .3, w .4, w .5, next) (
+    let behind = evicted-behind t (cache .ensures) in
+    let marked = marks .ensures .1 (place .result) (place .ensures .1) in
+    let loads : c .before .before .loads .result
+    ≡ bit (evicted t (place .result) && sameBlock (getD (inner .held) (place .result) Empty) (Held (number .result)) && ltb (getD (inner .since) (place .result) 0) (suc (joined .if1 .region))) =
+    c .before .before .loads .ensures .0 ∙ rw (mark-tells t most (place .result) _ marked, add-one) refl in
+    rw next (
       omega (arith, taken),
-      known-skip t (outer .i) (inner .j) (number .result) inside counted number-is inside-region (inner .inv .1) nowhere,
-      inner .inv .2 ∙ sym (loaded-skip t (evicted t) (outer .i) (inner .j) (number .result) inside counted number-is _ inside-region nowhere),
-      charged-skip t (outer .i) (inner .j) (number .result) inside counted number-is inside-region (inner .inv .3) nowhere,
-    ))
-    (λ w.
-    let on = w .1 .given .0 .0 in
-    let lies = lies-on t (number .result) on (is ∙ w .1 .given .1) in
-    let in-cache = line-below (line .result) on (w .1 .given .1) (line .ensures .1) in
-    let marked = marks .ensures .1 on in-cache in
-    let loads = w .4 .ensures .0 ∙ rw (mark-tells t most on _ marked, add-one) refl in
-    rw (w .7, w .8, w .9, w .10, next) (
-      omega (arith, taken),
-      known-more t (outer .i) (inner .j) (number .result) inside counted number-is inside-region (inner .inv .1) on in-cache lies _ (add-one (joined .if1 .region)),
+      known-more t (outer .i) (inner .j) (number .result) inside counted number-is inside-region (inner .inv .1) (place .result) (place .ensures .1) lies _ (add-one (joined .if1 .region)),
       ap₂ _+_ (inner .inv .2) loads ∙
-          sym (known-loads t (outer .i) (inner .j) (number .result) inside counted number-is inside-region (inner .inv .1) on in-cache lies (evicted t)),
-      charged-more t (outer .i) (inner .j) (number .result) inside counted number-is inside-region (inner .inv .3) (inner .inv .1) on in-cache lies most _ _ marked loads,
-    ))
-    (c .match .came)
+          sym (known-loads t (outer .i) (inner .j) (number .result) inside counted number-is inside-region (inner .inv .1) (place .result) (place .ensures .1) lies (evicted t) behind),
+      charged-more t (outer .i) (inner .j) (number .result) inside counted number-is inside-region (inner .inv .3) (inner .inv .1) (place .result) (place .ensures .1) lies behind most _ _ marked loads,
+    )
 
 mul-lines : tie.Need-mul-lines Inv-loop2 μ-loop2 Inv-loop μ-loop
 mul-lines c = omega (arith, few (c .before .before .before .before))
@@ -309,9 +293,7 @@ charge-lines-spec =
     read-count-requires
     loop2-holds
     read-requires
-    line-of-requires
-    enum-told
-    enum-known-c
+    place-of-requires
     mul-line
     array-copy-out-line
     array-read-mark

@@ -10,33 +10,32 @@ use lib.ListN.{length, getD}
 use borrow.Author.Needs.{needs}
 use Rattle.model.specs.Task.{blockCount}
 use Rattle.model.specs.Lines.{blockAt, evicted}
-use Rattle.model.proofs.LineStates.{lies-on, lies-nowhere}
-use Rattle.model.proofs.Loads.{loadedBy, loaded-few, loaded-skip}
+use Rattle.model.proofs.Loads.{loadedBy, loaded-few}
 use Rattle.model.proofs.ReadOrder.{edge, edge-suc}
 use Rattle.taskfile.specs.File.{taskOf}
 use Rattle.taskfile.proofs.Accepted as accepted-file
-use Rattle.cacheline.proofs.Below.{line-below}
+use Rattle.cacheline.proofs.Below.{evicted-behind}
 use Rattle.pricing.proofs.Pricing.{startOf}
-use Rattle.pricing.proofs.Walk.{Known, known-none, known-region, known-block, known-skip, known-more, known-loads}
+use Rattle.pricing.proofs.Walk.{Known, known-none, known-region, known-block, known-more, known-loads}
 use Rattle.pricing.proofs.Walk.{AtEdge, at-start, edges, next-region, next-edge, at-end}
 use Rattle.pricing.proofs.count_lines.Statement.{statement}
 use Rattle.pricing.proofs.count_lines.Tie as tie
 
 abbrev Inv-loop2 : tie.InvT-loop2
-Inv-loop2 file points lines cache blocks marks held₀ since₀ region count₀ i here k reads j₀ held since count j =
+Inv-loop2 file points lines cache blocks evicted₀ held₀ since₀ region count₀ i here k reads j₀ held since count j =
     (j ≤ reads) × Known (taskOf file) (edge (taskOf file) i + j) (suc i) region (startOf (taskOf file) points region) held since ×
     (count ≡ loadedBy (taskOf file) (evicted (taskOf file)) (startOf (taskOf file) points region) (edge (taskOf file) i + j))
 
 abbrev μ-loop2 : tie.MeasureT-loop2
-μ-loop2 file points lines cache blocks marks held₀ since₀ region count₀ i here k reads j₀ held since count j = reads - j
+μ-loop2 file points lines cache blocks evicted₀ held₀ since₀ region count₀ i here k reads j₀ held since count j = reads - j
 
 abbrev Inv-loop : tie.InvT-loop
-Inv-loop file points lines₀ cache blocks marks held₀ since₀ region₀ count₀ i₀ lines held since region count i =
+Inv-loop file points lines₀ cache blocks evicted₀ held₀ since₀ region₀ count₀ i₀ lines held since region count i =
     (i ≤ blocks) × Known (taskOf file) (edge (taskOf file) i) i region (startOf (taskOf file) points region) held since ×
     AtEdge (taskOf file) points i region count lines
 
 abbrev μ-loop : tie.MeasureT-loop
-μ-loop file points lines₀ cache blocks marks held₀ since₀ region₀ count₀ i₀ lines held since region count i = blocks - i
+μ-loop file points lines₀ cache blocks evicted₀ held₀ since₀ region₀ count₀ i₀ lines held since region count i = blocks - i
 
 geometry-of-requires : tie.Need-geometry-of-requires Inv-loop2 μ-loop2 Inv-loop μ-loop
 geometry-of-requires c κs = search needs
@@ -116,49 +115,40 @@ read-requires c κs =
     let start = c .before .before .before .before .before .before .before .before .before .before .before .before .before .before in
     ((start .pre .0, omega arith, omega (arith, accepted-file.block-count (start .args .file .now))), omega arith)
 
-line-of-requires : tie.Need-line-of-requires Inv-loop2 μ-loop2 Inv-loop μ-loop
-line-of-requires c κs = search needs
-
-enum-told : tie.Need-enum-told Inv-loop2 μ-loop2 Inv-loop μ-loop
-enum-told c = search needs
-
-enum-known-c : tie.Need-enum-known-c Inv-loop2 μ-loop2 Inv-loop μ-loop
-enum-known-c c = search needs
-
--- the line is one of the arrays
-below : (c : tie.After-known-told Inv-loop2 μ-loop2 Inv-loop μ-loop) → c .before .c .given .0 .0 < 512
-below c = let line = c .before .before .before .line-of in line-below (line .result) (c .before .c .given .0 .0) (c .before .c .given .1) (line .ensures .1)
+place-of-requires : tie.Need-place-of-requires Inv-loop2 μ-loop2 Inv-loop μ-loop
+place-of-requires c κs = search needs
 
 mul-line : tie.Need-mul-line Inv-loop2 μ-loop2 Inv-loop μ-loop
-mul-line c = omega (arith, below c)
+mul-line c = omega (arith, c .place-of .ensures .1)
 
 array-copy-out-line : tie.Need-array-copy-out-line Inv-loop2 μ-loop2 Inv-loop μ-loop
-array-copy-out-line c = omega (arith, below c)
+array-copy-out-line c = omega (arith, c .place-of .ensures .1)
 
 array-read-loads : tie.Need-array-read-loads Inv-loop2 μ-loop2 Inv-loop μ-loop
-array-read-loads c = omega (arith, below (c .before))
+array-read-loads c = omega (arith, c .before .place-of .ensures .1)
 
 array-read-loads-2 : tie.Need-array-read-loads-2 Inv-loop2 μ-loop2 Inv-loop μ-loop
-array-read-loads-2 c = omega (arith, below (c .before))
+array-read-loads-2 c = omega (arith, c .before .place-of .ensures .1)
 
 loads-requires : tie.Need-loads-requires Inv-loop2 μ-loop2 Inv-loop μ-loop
 loads-requires c κs = search needs
 
 add-count : tie.Need-add-count Inv-loop2 μ-loop2 Inv-loop μ-loop
 add-count c =
-    let inner = c .before .before .before .before .before .before .before .before .before .loop2 in
-    let args = c .before .before .before .before .before .before .before .before .before .before .before .before .before .before .before .before .before .before .before .before .before .before .args in
+    let inner = c .before .before .before .before .before .before .loop2 in
+    let joined = c .before .before .before .before .before .before .before .before .before in
+    let args = joined .before .before .before .before .before .before .before .before .before .before .args in
     let t = taskOf (args .file .now) in
-    omega (arith, c .before .loads .ensures .1, inner .inv .2, loaded-few t (evicted t) (startOf t (args .points .now) (c .before .before .before .before .before .before .before .before .before .before .before .before .if1 .region)) (edge t (c .before .before .before .before .before .before .before .before .before .before .before .before .before .before .before .loop .i) + inner .j))
+    omega (arith, c .before .loads .ensures .1, inner .inv .2, loaded-few t (evicted t) (startOf t (args .points .now) (joined .if1 .region)) (edge t (joined .before .before .before .loop .i) + inner .j))
 
 mul-held : tie.Need-mul-held Inv-loop2 μ-loop2 Inv-loop μ-loop
-mul-held c = omega (arith, below (c .before .before .before))
+mul-held c = omega (arith, c .before .before .before .place-of .ensures .1)
 
 array-set-from-held : tie.Need-array-set-from-held Inv-loop2 μ-loop2 Inv-loop μ-loop
-array-set-from-held c = omega (arith, below (c .before .before .before))
+array-set-from-held c = omega (arith, c .before .before .before .place-of .ensures .1)
 
 array-write-since : tie.Need-array-write-since Inv-loop2 μ-loop2 Inv-loop μ-loop
-array-write-since c = omega (arith, below (c .before .before .before))
+array-write-since c = omega (arith, c .before .before .before .place-of .ensures .1)
 
 add-j : tie.Need-add-j Inv-loop2 μ-loop2 Inv-loop μ-loop
 add-j c = omega arith
@@ -168,7 +158,8 @@ loop2-less c = omega arith
 
 loop2-again : tie.Need-loop2-again Inv-loop2 μ-loop2 Inv-loop μ-loop
 loop2-again c =
-    let turn = c .before .before .before in
+    let placed = c .before .before .before in
+    let turn = placed .before .before in
     let inner = turn .before .loop2 in
     let joined = turn .before .before .before .before in
     let outer = joined .before .before .before .loop in
@@ -178,8 +169,8 @@ loop2-again c =
     let inside-region = entered joined .0 .passed in
     let cache = joined .before .before .before .before .before .before .before .geometry-of in
     let marks = joined .before .before .before .before .mark-evicted in
-    let number = c .before .before .read in
-    let line = c .before .line-of in
+    let number = placed .before .read in
+    let place = placed .place-of in
     let taken = turn .loop2-test .taken in
     let inside : outer .i < blockCount t =
     omega (arith, joined .before .before .loop-test .taken, joined .before .before .before .before .before .before .block-count .ensures .0) in
@@ -187,26 +178,13 @@ loop2-again c =
     let counted : inner .j < length (blockAt t (outer .i) .reads) = rw reads-are (omega (arith, taken, turn .before .before .read-count .ensures .0)) in
     let number-is : getD (blockAt t (outer .i) .reads) (inner .j) 0 ≡ number .result = rw reads-are (sym (number .ensures)) in
     let next : edge t (outer .i) + (inner .j + 1) ≡ suc (edge t (outer .i) + inner .j) = omega arith in
-    let is = sym (line .ensures .0 t (cache .ensures)) in
-    ⊎-elim
-    (λ w.
-    let nowhere = lies-nowhere t (number .result) (is ∙ w .1 .given .1) in
-    rw (w .2, w .3, w .4, next) (
+    let lies = place .ensures .0 t (cache .ensures) in
+    rw next (
       omega (arith, taken),
-      known-skip t (outer .i) (inner .j) (number .result) inside counted number-is inside-region (inner .inv .1) nowhere,
-      inner .inv .2 ∙ sym (loaded-skip t (evicted t) (outer .i) (inner .j) (number .result) inside counted number-is _ inside-region nowhere),
-    ))
-    (λ w.
-    let on = w .1 .given .0 .0 in
-    let lies = lies-on t (number .result) on (is ∙ w .1 .given .1) in
-    let in-cache = line-below (line .result) on (w .1 .given .1) (line .ensures .1) in
-    rw (w .6, w .7, w .8, next) (
-      omega (arith, taken),
-      known-more t (outer .i) (inner .j) (number .result) inside counted number-is inside-region (inner .inv .1) on in-cache lies _ (add-one (joined .if1 .region)),
-      ap₂ _+_ (inner .inv .2) (w .4 .ensures .0 ∙ rw (marks .ensures .1 on, add-one) refl) ∙
-          sym (known-loads t (outer .i) (inner .j) (number .result) inside counted number-is inside-region (inner .inv .1) on in-cache lies (evicted t)),
-    ))
-    (c .match .came)
+      known-more t (outer .i) (inner .j) (number .result) inside counted number-is inside-region (inner .inv .1) (place .result) (place .ensures .1) lies _ (add-one (joined .if1 .region)),
+      ap₂ _+_ (inner .inv .2) (c .before .loads .ensures .0 ∙ rw (marks .ensures .1 (place .result), add-one) refl) ∙
+          sym (known-loads t (outer .i) (inner .j) (number .result) inside counted number-is inside-region (inner .inv .1) (place .result) (place .ensures .1) lies (evicted t) (evicted-behind t (cache .ensures))),
+    )
 
 mul-lines : tie.Need-mul-lines Inv-loop2 μ-loop2 Inv-loop μ-loop
 mul-lines c = omega (arith, few (c .before .before .before .before))
@@ -265,9 +243,7 @@ count-lines-spec =
     read-count-requires
     loop2-holds
     read-requires
-    line-of-requires
-    enum-told
-    enum-known-c
+    place-of-requires
     mul-line
     array-copy-out-line
     array-read-loads

@@ -15,7 +15,7 @@ use Rattle.model.proofs.Lists.{none-lowest}
 use Rattle.model.proofs.ReadOrder.{edge, edge-suc}
 use Rattle.taskfile.specs.File.{taskOf}
 use Rattle.taskfile.proofs.Accepted as accepted-file
-use Rattle.cacheline.proofs.Below.{line-below}
+use Rattle.cacheline.proofs.Below.{line-below, evicted-behind}
 use Rattle.replaying.proofs.Steps.{Replayed, PointsLeft, at-start, read-skip, read-more, pass-edge, at-end}
 use Rattle.replaying.proofs.count_misses.Statement.{statement}
 use Rattle.replaying.proofs.count_misses.Tie as tie
@@ -97,9 +97,6 @@ array-copy-out-line c = omega (arith, below c)
 array-read-is-lost : tie.Need-array-read-is-lost Inv-loop2 μ-loop2 Inv-loop μ-loop
 array-read-is-lost c = omega (arith, below (c .before))
 
-mul-is-lost : tie.Need-mul-is-lost Inv-loop2 μ-loop2 Inv-loop μ-loop
-mul-is-lost c = omega (arith, below (c .before))
-
 array-read-is-lost-2 : tie.Need-array-read-is-lost-2 Inv-loop2 μ-loop2 Inv-loop μ-loop
 array-read-is-lost-2 c = omega (arith, below (c .before))
 
@@ -124,8 +121,8 @@ mul-held c = omega (arith, below (c .before .before .before .before))
 array-set-from-held : tie.Need-array-set-from-held Inv-loop2 μ-loop2 Inv-loop μ-loop
 array-set-from-held c = omega (arith, below (c .before .before .before .before))
 
-mul-since : tie.Need-mul-since Inv-loop2 μ-loop2 Inv-loop μ-loop
-mul-since c = omega (arith, below (c .before .before .before .before))
+cast-since : tie.Need-cast-since Inv-loop2 μ-loop2 Inv-loop μ-loop
+cast-since c = omega arith
 
 array-write-since : tie.Need-array-write-since Inv-loop2 μ-loop2 Inv-loop μ-loop
 array-write-since c = omega (arith, below (c .before .before .before .before))
@@ -156,6 +153,7 @@ loop2-again c =
     let counted : inner .j < length (blockAt t (outer .i) .reads) = rw reads-are (omega (arith, taken, turn .before .before .read-count .ensures .0)) in
     let number-is : getD (blockAt t (outer .i) .reads) (inner .j) 0 ≡ number .result = rw reads-are (sym (number .ensures)) in
     let is = sym (line .ensures .0 t (cache .ensures)) in
+    let behind = evicted-behind t (cache .ensures) in
     let next : edge t (outer .i) + (inner .j + 1) ≡ suc (edge t (outer .i) + inner .j) = omega arith in
     ⊎-elim
     (λ w.
@@ -163,7 +161,7 @@ loop2-again c =
       omega (arith, taken),
       omega (arith, inner .inv .1),
       omega (arith, inner .inv .2),
-      read-skip t ps (number .result) inside counted number-is (outer .inv .3) (inner .inv .3) (is ∙ w .1 .given .1),
+      read-skip t ps (number .result) inside counted number-is (outer .inv .3) (inner .inv .3) (is ∙ w .1 .given .1) behind,
     ))
     (λ w.
     let on = w .1 .given .0 .0 in
@@ -172,7 +170,7 @@ loop2-again c =
       omega (arith, inner .inv .1, w .5 .ensures .1),
       omega (arith, inner .inv .2, w .6 .ensures .1),
       read-more t ps (number .result) inside counted number-is (outer .inv .3) (inner .inv .3) on (outer .i + 1) _ _ (line-below (line .result) on (w .1 .given .1) (line .ensures .1))
-          (is ∙ w .1 .given .1) (add-one (outer .i)) (w .5 .ensures .0) (w .6 .ensures .0 ∙ rw (w .4 .ensures, marks on) refl),
+          (is ∙ w .1 .given .1) behind (add-one (outer .i)) (w .5 .ensures .0) (w .6 .ensures .0 ∙ rw (w .4 .ensures, marks on) refl),
     ))
     (c .match .came)
 
@@ -234,7 +232,6 @@ count-misses-spec =
     mul-line
     array-copy-out-line
     array-read-is-lost
-    mul-is-lost
     array-read-is-lost-2
     is-lost-requires
     missed-requires
@@ -243,7 +240,7 @@ count-misses-spec =
     add-preempted
     mul-held
     array-set-from-held
-    mul-since
+    cast-since
     array-write-since
     add-j
     loop2-less

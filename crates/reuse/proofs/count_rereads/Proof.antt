@@ -2,7 +2,6 @@
 -- Assumes nothing.
 use Prim.Native.Nat.{suc, _+_, _-_, _*_, _≤_, _<_}
 use mathlib.Core.Path.{_≡_, refl, sym, ap, _∙_}
-use mathlib.Core.Logic.{⊎-elim}
 use native.Mathlib.Nat.{add-zero}
 use native.Mathlib.Omega.{arith}
 use native.Mathlib.Numerals.{add-one}
@@ -10,12 +9,11 @@ use lib.ListN.{length, getD}
 use borrow.Author.Needs.{needs}
 use Rattle.model.specs.Task.{blockCount}
 use Rattle.model.specs.Lines.{blockAt}
-use Rattle.model.proofs.LineStates.{lies-on, lies-nowhere}
 use Rattle.model.proofs.ReadOrder.{edge, edge-suc}
 use Rattle.taskfile.specs.File.{taskOf}
 use Rattle.taskfile.proofs.Accepted as accepted-file
-use Rattle.cacheline.proofs.Below.{line-below}
-use Rattle.reuse.proofs.Counting.{Counting, counting-none, counting-skip, counting-more, count-small, counting-block, counting-all, counting-few}
+use Rattle.cacheline.proofs.Below.{evicted-behind}
+use Rattle.reuse.proofs.Counting.{Counting, counting-none, counting-more, count-small, counting-block, counting-all, counting-few}
 use Rattle.reuse.proofs.count_rereads.Statement.{statement}
 use Rattle.reuse.proofs.count_rereads.Tie as tie
 
@@ -57,85 +55,72 @@ read-requires c κs =
     let start = c .before .before .before .before .before .before .before in
     ((start .pre .0 .0, omega arith, omega (arith, accepted-file.block-count (start .args .file .now))), omega arith)
 
-line-of-requires : tie.Need-line-of-requires Inv-loop2 μ-loop2 Inv-loop μ-loop
-line-of-requires c κs = search needs
-
-enum-told : tie.Need-enum-told Inv-loop2 μ-loop2 Inv-loop μ-loop
-enum-told c = search needs
-
-enum-known-c : tie.Need-enum-known-c Inv-loop2 μ-loop2 Inv-loop μ-loop
-enum-known-c c = search needs
-
--- the line is one of the arrays
-below : (c : tie.After-known-told Inv-loop2 μ-loop2 Inv-loop μ-loop) → c .before .c .given .0 .0 < 512
-below c = let line = c .before .before .before .line-of in line-below (line .result) (c .before .c .given .0 .0) (c .before .c .given .1) (line .ensures .1)
+place-of-requires : tie.Need-place-of-requires Inv-loop2 μ-loop2 Inv-loop μ-loop
+place-of-requires c κs = search needs
 
 mul-line : tie.Need-mul-line Inv-loop2 μ-loop2 Inv-loop μ-loop
-mul-line c = omega (arith, below c)
+mul-line c = omega (arith, c .place-of .ensures .1)
 
 array-copy-out-line : tie.Need-array-copy-out-line Inv-loop2 μ-loop2 Inv-loop μ-loop
-array-copy-out-line c = omega (arith, below c)
-
--- the count is one of the array
-column : (c : tie.After-line Inv-loop2 μ-loop2 Inv-loop μ-loop)
-    → 64 * c .before .before .before .before .before .before .before .before .before .before .loop .i +
-    getD (c .before .before .before .before .before .before .before .loop2 .since) (c .before .before .c .given .0 .0) 0 < 4096
-column c =
-    let inner = c .before .before .before .before .before .before .before .loop2 in
-    omega (arith, inner .inv .1 .recent (c .before .before .c .given .0 .0) (below (c .before)))
+array-copy-out-line c = omega (arith, c .place-of .ensures .1, c .before .before .before .loop2 .inv .1 .long-held)
 
 mul-at : tie.Need-mul-at Inv-loop2 μ-loop2 Inv-loop μ-loop
 mul-at c = omega arith
 
 array-read-at : tie.Need-array-read-at Inv-loop2 μ-loop2 Inv-loop μ-loop
-array-read-at c = below (c .before)
+array-read-at c = omega (arith, c .before .place-of .ensures .1)
+
+-- the count is one of the array
+column : (c : tie.After-place-of Inv-loop2 μ-loop2 Inv-loop μ-loop)
+    → 64 * c .before .before .before .before .before .before .loop .i + getD (c .before .before .before .loop2 .since) (c .place-of .result) 0 < 4096
+column c = omega (arith, c .before .before .before .loop2 .inv .1 .recent (c .place-of .result) (c .place-of .ensures .1))
 
 cast-at : tie.Need-cast-at Inv-loop2 μ-loop2 Inv-loop μ-loop
-cast-at c = record { fits = omega (arith, column c) }
+cast-at c = record { fits = omega (arith, column (c .before)) }
 
 add-at : tie.Need-add-at Inv-loop2 μ-loop2 Inv-loop μ-loop
-add-at c = record { fits = omega (arith, column c) }
+add-at c = record { fits = omega (arith, column (c .before)) }
 
 element-copy-out-reread : tie.Need-element-copy-out-reread Inv-loop2 μ-loop2 Inv-loop μ-loop
-element-copy-out-reread c = below (c .before)
+element-copy-out-reread c = omega (arith, c .before .place-of .ensures .1)
 
 reread-requires : tie.Need-reread-requires Inv-loop2 μ-loop2 Inv-loop μ-loop
 reread-requires c κs = search needs
 
 element-copy-out-counts : tie.Need-element-copy-out-counts Inv-loop2 μ-loop2 Inv-loop μ-loop
-element-copy-out-counts c = column (c .before .before)
+element-copy-out-counts c = column (c .before .before .before)
 
 add-counts : tie.Need-add-counts Inv-loop2 μ-loop2 Inv-loop μ-loop
 add-counts c =
-    let at-line = c .before .before .before in
-    let outer = at-line .before .before .before .before .before .before .before .before .before .before .loop in
-    let inner = at-line .before .before .before .before .before .before .before .loop2 in
-    let t = taskOf (at-line .before .before .before .before .before .before .before .before .before .before .before .before .before .args .file .now) in
+    let placed = c .before .before .before .before in
+    let outer = placed .before .before .before .before .before .before .loop in
+    let inner = placed .before .before .before .loop2 in
+    let t = taskOf (placed .before .before .before .before .before .before .before .before .before .args .file .now) in
     record {
       fits =
           omega (
             arith,
-            count-small t (outer .i) _ (at-line .before .before .c .given .0 .0) (omega arith) (below (at-line .before)) (inner .inv .1),
+            count-small t (outer .i) _ (placed .place-of .result) (omega arith) (placed .place-of .ensures .1) (inner .inv .1),
             inner .inv .0,
             c .before .reread .ensures .1,
-            at-line .before .before .before .before .before .before .before .before .read-count .ensures .1,
+            placed .before .before .before .before .read-count .ensures .1,
           );
     }
 
 element-write-counts : tie.Need-element-write-counts Inv-loop2 μ-loop2 Inv-loop μ-loop
-element-write-counts c = column (c .before .before .before)
+element-write-counts c = column (c .before .before .before .before)
 
 mul-held : tie.Need-mul-held Inv-loop2 μ-loop2 Inv-loop μ-loop
-mul-held c = omega (arith, below (c .before .before .before .before))
+mul-held c = omega (arith, c .before .before .before .before .place-of .ensures .1)
 
 array-set-from-held : tie.Need-array-set-from-held Inv-loop2 μ-loop2 Inv-loop μ-loop
-array-set-from-held c = below (c .before .before .before .before)
+array-set-from-held c = omega (arith, c .before .before .before .before .place-of .ensures .1)
 
 cast-since : tie.Need-cast-since Inv-loop2 μ-loop2 Inv-loop μ-loop
 cast-since c = omega arith
 
 array-write-since : tie.Need-array-write-since Inv-loop2 μ-loop2 Inv-loop μ-loop
-array-write-since c = below (c .before .before .before .before)
+array-write-since c = omega (arith, c .before .before .before .before .place-of .ensures .1)
 
 add-j : tie.Need-add-j Inv-loop2 μ-loop2 Inv-loop μ-loop
 add-j c = omega arith
@@ -145,14 +130,15 @@ loop2-less c = omega arith
 
 loop2-again : tie.Need-loop2-again Inv-loop2 μ-loop2 Inv-loop μ-loop
 loop2-again c =
-    let turn = c .before .before .before in
+    let placed = c .before .before .before .before in
+    let turn = placed .before .before in
     let outer = turn .before .before .before .before .loop in
     let inner = turn .before .loop2 in
     let start = turn .before .before .before .before .before .before .before in
     let file = start .args .file .now in
     let t = taskOf file in
-    let number = c .before .before .read in
-    let line = c .before .line-of in
+    let number = placed .before .read in
+    let place = placed .place-of in
     let taken = turn .loop2-test .taken in
     let inside : outer .i < blockCount t =
     omega (arith, turn .before .before .before .loop-test .taken, turn .before .before .before .before .before .block-count .ensures .0) in
@@ -160,23 +146,13 @@ loop2-again c =
     let counted : inner .j < length (blockAt t (outer .i) .reads) = rw reads-are (omega (arith, taken, turn .before .before .read-count .ensures .0)) in
     let number-is : getD (blockAt t (outer .i) .reads) (inner .j) 0 ≡ number .result = rw reads-are (sym (number .ensures)) in
     let next : edge t (outer .i) + (inner .j + 1) ≡ suc (edge t (outer .i) + inner .j) = omega arith in
-    let is = sym (line .ensures .0 t (start .pre .0 .1)) in
-    ⊎-elim
-    (λ w.
-    rw (w .2, w .3, w .4, next) (
+    let lies = place .ensures .0 t (start .pre .0 .1) in
+    rw next (
       omega (arith, taken),
-      counting-skip t (outer .i) (inner .j) (number .result) inside counted number-is (inner .inv .1) (lies-nowhere t (number .result) (is ∙ w .1 .given .1)),
-    ))
-    (λ w.
-    let on = w .1 .given .0 .0 in
-    let lies = lies-on t (number .result) on (is ∙ w .1 .given .1) in
-    rw (w .7, w .8, w .9, next) (
-      omega (arith, taken),
-      counting-more t (outer .i) (inner .j) (number .result) inside counted number-is (inner .inv .1) on (w .5 .result)
-          (line-below (line .result) on (w .1 .given .1) (line .ensures .1)) lies (accepted-file.few-blocks file (start .pre .0 .0))
-          (w .5 .ensures .0 ∙ rw (start .pre .1 .0 .1 on) refl) (w .5 .ensures .1),
-    ))
-    (c .match .came)
+      counting-more t (outer .i) (inner .j) (number .result) inside counted number-is (inner .inv .1) (place .result) (c .before .reread .result) (place .ensures .1)
+          lies (evicted-behind t (start .pre .0 .1)) (accepted-file.few-blocks file (start .pre .0 .0))
+          (c .before .reread .ensures .0 ∙ rw (start .pre .1 .0 .1 (place .result)) refl) (c .before .reread .ensures .1),
+    )
 
 add-i : tie.Need-add-i Inv-loop2 μ-loop2 Inv-loop μ-loop
 add-i c = omega arith
@@ -230,9 +206,7 @@ count-rereads-spec =
     read-count-requires
     loop2-holds
     read-requires
-    line-of-requires
-    enum-told
-    enum-known-c
+    place-of-requires
     mul-line
     array-copy-out-line
     mul-at

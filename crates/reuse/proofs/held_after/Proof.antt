@@ -1,16 +1,19 @@
 -- `reuse::held_after` meets its contract. Both loops keep what the lines hold after the reads passed.
 -- Assumes nothing.
-use Prim.Native.Nat.{_+_, _-_, _≤_, _<_}
+use Prim.Native.Nat.{suc, _+_, _-_, _≤_, _<_}
 use mathlib.Core.Path.{_≡_, refl, sym, _∙_}
 use mathlib.Core.Logic.{⊎-elim}
-use native.Mathlib.Nat.{add-zero, add-assoc}
+use native.Mathlib.Nat.{add-zero}
 use native.Mathlib.Omega.{arith}
 use native.Mathlib.Numerals.{add-one}
-use lib.ListN.{length, getD}
+use lib.ListN.{length, getD, length-set, getD-replicate}
+use lib.Seq.{getD-set-same, getD-set-other}
+use borrow.Author.Tests.{ne-eqb}
 use borrow.Author.Needs.{needs}
 use Rattle.model.specs.Task.{blockCount}
 use Rattle.model.specs.Lines.{blockAt, readsOf, stateAfter}
-use Rattle.model.proofs.Histories.{Holds, holds-none, holds-skip, holds-more}
+use Rattle.model.specs.declared.Line.the-variants.{Empty}
+use Rattle.model.proofs.Histories.{Holds, holds-none, holds-more}
 use Rattle.model.proofs.LineStates.{lies-on, lies-nowhere}
 use Rattle.model.proofs.ReadOrder.{edge, edge-suc, take-edge}
 use Rattle.taskfile.specs.File.{taskOf}
@@ -20,20 +23,20 @@ use Rattle.reuse.proofs.held_after.Statement.{statement}
 use Rattle.reuse.proofs.held_after.Tie as tie
 
 abbrev Inv-loop2 : tie.InvT-loop2
-Inv-loop2 file cache k held₀ i b reads j₀ held j = (j ≤ reads) × Holds (taskOf file) (edge (taskOf file) i + j) held
+Inv-loop2 file cache k held₀ i b reads j₀ held j = (j ≤ reads) × (length held ≡ 512) × Holds (taskOf file) (edge (taskOf file) i + j) (λ c. getD held c Empty)
 
 abbrev μ-loop2 : tie.MeasureT-loop2
 μ-loop2 file cache k held₀ i b reads j₀ held j = reads - j
 
 abbrev Inv-loop : tie.InvT-loop
-Inv-loop file cache k held₀ i₀ held i = (i ≤ k) × Holds (taskOf file) (edge (taskOf file) i) held
+Inv-loop file cache k held₀ i₀ held i = (i ≤ k) × (length held ≡ 512) × Holds (taskOf file) (edge (taskOf file) i) (λ c. getD held c Empty)
 
 abbrev μ-loop : tie.MeasureT-loop
 μ-loop file cache k held₀ i₀ held i = k - i
 
 loop-holds : tie.Need-loop-holds Inv-loop2 μ-loop2 Inv-loop μ-loop
 unfolding readsOf
-loop-holds c = (omega arith, holds-none _)
+loop-holds c = (omega arith, refl, holds-none _ (λ d h. getD-replicate 512 d Empty Empty h))
 
 add-b : tie.Need-add-b Inv-loop2 μ-loop2 Inv-loop μ-loop
 add-b c = omega arith
@@ -44,7 +47,7 @@ read-count-requires c κs =
     (start .pre .0, omega arith, omega (arith, start .pre .1, accepted-file.block-count (start .args .file .now)))
 
 loop2-holds : tie.Need-loop2-holds Inv-loop2 μ-loop2 Inv-loop μ-loop
-loop2-holds c = (omega arith, rw add-zero (c .before .before .loop .inv .1))
+loop2-holds c = let l = c .before .before .loop in (omega arith, l .inv .1, rw add-zero (l .inv .2))
 
 read-requires : tie.Need-read-requires Inv-loop2 μ-loop2 Inv-loop μ-loop
 read-requires c κs =
@@ -89,18 +92,27 @@ loop2-again c =
     let inside : outer .i < blockCount t = omega (arith, start .pre .1) in
     let counted : inner .j < length (blockAt t (outer .i) .reads) = rw reads-are (omega arith) in
     let number-is : getD (blockAt t (outer .i) .reads) (inner .j) 0 ≡ number .result = rw reads-are (sym (number .ensures)) in
-    let is = line .ensures .0 t (start .pre .2) in (
+    let is = sym (line .ensures .0 t (start .pre .2)) in
+    let next : edge t (outer .i) + (inner .j + 1) ≡ suc (edge t (outer .i) + inner .j) = omega arith in
+    ⊎-elim
+    (λ w.
+    let nowhere = lies-nowhere t (number .result) (is ∙ w .1 .given .1) in
+    rw (w .2, next) (
       omega arith,
-      rw (← add-assoc, add-one)
-          (⊎-elim
-          (λ w.
-          rw (w .2) (holds-skip t (outer .i) (inner .j) (number .result) inside counted number-is (lies-nowhere t (number .result) (sym is ∙ w .1 .given .1)) (inner .inv .1)))
-          (λ w.
-          rw (w .3)
-          (holds-more t (outer .i) (inner .j) (number .result) inside counted number-is (w .1 .given .0 .0)
-          (line-below (line .result) (w .1 .given .0 .0) (w .1 .given .1) (line .ensures .1)) (lies-on t (number .result) (w .1 .given .0 .0) (sym is ∙ w .1 .given .1)) (inner .inv .1)))
-          (c .match .came)),
-    )
+      inner .inv .1,
+      holds-more t (outer .i) (inner .j) (number .result) inside counted number-is 512 (λ d l. nowhere d ∙ sym (ne-eqb d 512 (λ (e : d ≡ 512). omega arith)))
+          (λ l. absurd (omega arith)) (λ d n. refl) (inner .inv .2),
+    ))
+    (λ w.
+    let on = w .1 .given .0 .0 in
+    let low = line-below (line .result) on (w .1 .given .1) (line .ensures .1) in
+    rw (w .3, next) (
+      omega arith,
+      length-set (inner .held) on _ ∙ inner .inv .1,
+      holds-more t (outer .i) (inner .j) (number .result) inside counted number-is on (λ d l. lies-on t (number .result) on (is ∙ w .1 .given .1) d)
+          (λ l. getD-set-same (inner .held) on _ Empty (omega (arith, inner .inv .1))) (λ d n. getD-set-other (inner .held) on d _ Empty n) (inner .inv .2),
+    ))
+    (c .match .came)
 
 add-i : tie.Need-add-i Inv-loop2 μ-loop2 Inv-loop μ-loop
 add-i c = omega arith
@@ -118,7 +130,7 @@ loop-again c =
     let whole : length (blockAt (taskOf file) (outer .i) .reads) ≡ inner .j = rw reads-are (omega arith) in
     let there : edge (taskOf file) (outer .i + 1) ≡ edge (taskOf file) (outer .i) + inner .j =
     rw (add-one, edge-suc (taskOf file) (outer .i) (omega (arith, start .pre .1)), whole) refl in
-    (omega arith, rw there (inner .inv .1))
+    (omega arith, inner .inv .1, rw there (inner .inv .2))
 
 returns : tie.Need-returns Inv-loop2 μ-loop2 Inv-loop μ-loop
 unfolding stateAfter
@@ -127,7 +139,7 @@ returns c =
     let t = taskOf (start .args .file .now) in
     let l = c .before .loop in
     let done : l .i ≡ start .args .k = omega arith in
-    (l .inv .1 .long, λ d h. l .inv .1 .states d h ∙ rw (done, take-edge t (start .args .k)) refl)
+    (l .inv .1, λ d h. l .inv .2 d h ∙ rw (done, take-edge t (start .args .k)) refl)
 
 pub held-after-spec : {M : Type 1} → statement M
 held-after-spec =

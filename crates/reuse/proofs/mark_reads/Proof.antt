@@ -2,34 +2,35 @@
 -- Assumes nothing.
 use Prim.Native.Nat.{ℕ, _+_, _-_, _≤_, _<_}
 use mathlib.Core.Path.{_≡_, sym, ap, _∙_}
-use mathlib.Core.Bool.{Bool, false, _||_, or-false, or-assoc}
+use mathlib.Core.Bool.{Bool, true, false, _||_, or-false, or-assoc}
 use mathlib.Core.List.{List}
 use native.Mathlib.Omega.{arith}
-use lib.ListN.{length, getD, take}
+use lib.Dec.{eqb}
+use lib.ListN.{length, getD, set, take, length-set}
 use lib.Seq.{take-all}
 use Rattle.model.specs.Task.{Task}
-use Rattle.model.specs.Lines.{lineOf, isLine, onLine, anyRead}
-use Rattle.model.specs.declared.Mapping.{Mapping}
+use Rattle.model.specs.Lines.{onLine, anyRead}
 use Rattle.model.proofs.LineStates.{any-take}
 use Rattle.taskfile.specs.File.{taskOf, entryReads}
+use Rattle.cacheline.specs.Geometries.{InPlace}
 use borrow.Author.Needs.{needs}
+use Rattle.reuse.specs.States.{MarkedToo}
+use Rattle.reuse.proofs.Marks.{one-marked}
 use Rattle.reuse.proofs.mark_reads.Statement.{statement}
 use Rattle.reuse.proofs.mark_reads.Tie as tie
 
 -- of the lines that these marks stand for, those read among the first j of the numbers, and those that were marked before
 abbrev Marked : Task → List ℕ → List Bool → ℕ → List Bool → Type 0
-Marked t xs marks₀ j marks = (length marks ≡ 512) × ((d : ℕ) → d < 512 → getD marks d false ≡ (getD marks₀ d false || anyRead (onLine t d) (take j xs)))
+Marked t xs marks₀ j marks = (length marks ≡ 513) × MarkedToo (λ d. anyRead (onLine t d) (take j xs)) marks₀ marks
 
-marked-more : (t : Task) (xs : List ℕ) (marks₀ marks marks′ : List Bool) (j m : ℕ) (mapping : Mapping) → j < length xs → m ≡ getD xs j 0 → mapping ≡ lineOf t m
-    → length marks′ ≡ 512 → ((d : ℕ) → d < 512 → getD marks′ d false ≡ (getD marks d false || isLine d mapping))
-    → Marked t xs marks₀ j marks → Marked t xs marks₀ (j + 1) marks′
-unfolding onLine
-marked-more t xs marks₀ marks marks′ j m mapping hj em el long marks-are k = (
-  long,
+marked-more : (t : Task) (xs : List ℕ) (marks₀ marks : List Bool) (j m place : ℕ) → j < length xs → m ≡ getD xs j 0 → InPlace t m place → place < 513
+    → Marked t xs marks₀ j marks → Marked t xs marks₀ (j + 1) (set marks place true)
+marked-more t xs marks₀ marks j m place hj em at low k = (
+  length-set marks place true ∙ k .0,
   λ d h.
-      marks-are d h ∙ ap (λ (x : Bool). x || isLine d mapping) (k .1 d h) ∙
-      or-assoc (getD marks₀ d false) (anyRead (onLine t d) (take j xs)) (isLine d mapping) ∙
-      ap (λ (x : Bool). getD marks₀ d false || x) (rw (el, em) (sym (any-take (onLine t d) xs j hj))),
+      one-marked marks place d (omega (arith, k .0)) ∙ ap (λ (x : Bool). x || eqb d place) (k .1 d h) ∙
+      or-assoc (getD marks₀ d false) (anyRead (onLine t d) (take j xs)) (eqb d place) ∙
+      ap (λ (x : Bool). getD marks₀ d false || x) (rw (← at d h, em) (sym (any-take (onLine t d) xs j hj))),
 )
 
 abbrev Inv-loop : tie.InvT-loop
@@ -48,11 +49,11 @@ loop-holds c = (omega arith, (c .before .before .pre .0, λ d h. sym (or-false _
 read-requires : tie.Need-read-requires Inv-loop μ-loop
 read-requires c κs = search needs
 
-line-of-requires : tie.Need-line-of-requires Inv-loop μ-loop
-line-of-requires c κs = search needs
+place-of-requires : tie.Need-place-of-requires Inv-loop μ-loop
+place-of-requires c κs = search needs
 
-mark-requires : tie.Need-mark-requires Inv-loop μ-loop
-mark-requires c κs = search needs
+element-write-marks : tie.Need-element-write-marks Inv-loop μ-loop
+element-write-marks c = omega (arith, c .place-of .ensures .1)
 
 add-j : tie.Need-add-j Inv-loop μ-loop
 add-j c = omega arith
@@ -62,13 +63,13 @@ loop-less c = omega arith
 
 loop-again : tie.Need-loop-again Inv-loop μ-loop
 loop-again c =
-    let l = c .before .before .before .before .before .loop in
-    let start = c .before .before .before .before .before .before .before .before in
-    let line = c .before .before .line-of in
-    let number = c .before .before .before .read in (
+    let l = c .before .before .before .loop in
+    let start = c .before .before .before .before .before .before in
+    let place = c .place-of in
+    let number = c .before .read in (
       omega arith,
-      marked-more (taskOf (start .args .file .now)) (entryReads (start .args .file .now) (start .args .k)) (start .args .marks .now) (l .marks) (c .mark .last .0) (l .j) (number .result)
-          (line .result) (omega arith) (number .ensures) (line .ensures .0 (taskOf (start .args .file .now)) (start .pre .1 .1)) (c .mark .ensures .0) (c .mark .ensures .1) (l .inv .1),
+      marked-more (taskOf (start .args .file .now)) (entryReads (start .args .file .now) (start .args .k)) (start .args .marks .now) (l .marks) (l .j) (number .result) (place .result) (omega arith)
+          (number .ensures) (place .ensures .0 (taskOf (start .args .file .now)) (start .pre .1 .1)) (place .ensures .1) (l .inv .1),
     )
 
 returns : tie.Need-returns Inv-loop μ-loop
@@ -91,8 +92,8 @@ mark-reads-spec =
     read-count-requires
     loop-holds
     read-requires
-    line-of-requires
-    mark-requires
+    place-of-requires
+    element-write-marks
     add-j
     loop-less
     loop-again

@@ -11,9 +11,6 @@ use Rattle.cacheline.proofs.Below.{line-below}
 use Rattle.reuse.proofs.Marks.{one-marked, one-number, marked-before, marked-twice, marked-first}
 use Rattle.reuse.proofs.note.Statement.{statement}
 use Rattle.reuse.proofs.note.Tie as tie
-use Rattle.reuse.proofs.note.Reads as reads
-use Rattle.reuse.proofs.note.Lts as lts
-use Rattle.lineset.proofs.LineSet.with.Reads as with-reads
 
 enum-told : tie.Need-enum-told
 enum-told c = search needs

@@ -1,24 +1,13 @@
 -- `cacheline::Geometry::lies_on` meets its contract: a memory block lies on the line of its remainder, unless it bypasses the cache.
 -- Assumes nothing.
 use Prim.Native.Nat.{ℕ, _%_}
-use mathlib.Core.Path.{_≡_, refl, sym, ap, _∙_}
-use mathlib.Core.Bool.{Bool, true, false, not, cond, _&&_, and-true, and-false}
-use lib.Dec.{eqb}
+use mathlib.Core.Path.{refl, sym, ap, _∙_}
 use borrow.Author.Needs.{needs}
 use borrow.Author.Tests.{eq-eqb, ne-eqb}
-use Rattle.model.specs.Task.{Task, lineCount}
-use Rattle.model.specs.Lines.{bypasses, lineOf, isLine, onLine}
-use Rattle.model.specs.declared.Mapping.the-variants.{Uncached, Cached}
+use Rattle.model.specs.Lines.{bypasses}
+use Rattle.cacheline.proofs.Below.{both-tests}
 use Rattle.cacheline.proofs.Geometry.lies_on.Statement.{statement}
 use Rattle.cacheline.proofs.Geometry.lies_on.Tie as tie
-
-both-tests : (t : Task) (c m : ℕ) → onLine t c m ≡ (eqb c (m % lineCount t) && not (bypasses t m))
-unfolding onLine lineOf
-both-tests t c m = go (bypasses t m)
-  where
-    go : (b : Bool) → isLine c (cond b Uncached (Cached (m % lineCount t))) ≡ (eqb c (m % lineCount t) && not b)
-    go true = sym (and-false (eqb c (m % lineCount t)))
-    go false = sym (and-true (eqb c (m % lineCount t)))
 
 remainder-requires : tie.Need-remainder-requires
 remainder-requires c κs = search needs

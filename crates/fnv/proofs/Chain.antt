@@ -42,10 +42,10 @@ pub chain-word : {from : ℕ} {bytes : List ℕ} {i state next : ℕ} → Reache
     → Reached from bytes (i + 8) next
 chain-word {from} {bytes} {i} {state} {next} r e h = chain-part 8 next r (rw (add-sub-cancel-left i 8) at e) h
 
--- a word of zeros
-pub chain-zeros : {from : ℕ} {bytes : List ℕ} {i state next : ℕ} → Reached from bytes i state → next ≡ hashFrom state (replicate 8 0) → i + 8 ≤ length bytes
-    → ((j : ℕ) → j < 8 → getD bytes (i + j) 0 ≡ 0) → Reached from bytes (i + 8) next
-chain-zeros {from} {bytes} {i} {state} {next} r e h zeros = chain-part 8 next r (rw (all-zero 8 bytes i h zeros) e) h
+-- n zeros
+pub chain-zeros : (n : ℕ) {from : ℕ} {bytes : List ℕ} {i state next : ℕ} → Reached from bytes i state → next ≡ hashFrom state (replicate n 0) → i + n ≤ length bytes
+    → ((j : ℕ) → j < n → getD bytes (i + j) 0 ≡ 0) → Reached from bytes (i + n) next
+chain-zeros n {from} {bytes} {i} {state} {next} r e h zeros = chain-part n next r (rw (all-zero n bytes i h zeros) e) h
 
 pub chain-end : {from : ℕ} {bytes : List ℕ} {i state : ℕ} → Reached from bytes i state → i ≡ length bytes → state ≡ hashFrom from bytes
 unfolding hashFrom

@@ -5,7 +5,7 @@ use mathlib.Core.Bool.{Bool, true, false}
 use mathlib.Core.List.{List, _∷_}
 use native.Mathlib.Nat.{add-zero, mul-one, mul-assoc, mul-comm, div-add-mod', mul-add-mod-self-right, mod-eq-of-lt, pow-suc}
 use native.Mathlib.Omega.{arith}
-use lib.Bits.{bitOr, bitXor, xor-zero-r, or-add-and, and-le-l, and-le-r}
+use lib.Bits.{bitOr, xor-zero-r, or-add-and, and-le-l, and-le-r}
 use lib.Dec.{ltb}
 use lib.ListN.{length, getD, take, drop, replicate}
 use lib.Seq.{drop-cons}
@@ -28,11 +28,18 @@ zeros-product (suc n) s =
     ap (λ (state : ℕ). hashFrom state (replicate n 0)) (step-zero s) ∙ zeros-product n (s * 16777619) ∙
     ap (λ (x : ℕ). x % 2 ^ 32) (mul-assoc s 16777619 (16777619 ^ n) ∙ ap (λ (x : ℕ). s * x) (mul-comm 16777619 (16777619 ^ n) ∙ sym (pow-suc 16777619 n)))
 
+-- so n zeros are one, by the low 32 bits of a power
+zeros-power : (n power s : ℕ) → power ≡ 16777619 ^ n % 2 ^ 32 → s < 2 ^ 32 → s * power % 2 ^ 32 ≡ hashFrom s (replicate n 0)
+zeros-power n power s is small =
+    let whole : hashFrom (s % 2 ^ 32) (replicate n 0) ≡ s * 16777619 ^ n % 2 ^ 32 = zeros-product n s in
+    let low : 16777619 ^ n % 2 ^ 32 * s % 2 ^ 32 ≡ 16777619 ^ n * s % 2 ^ 32 = mod-product (16777619 ^ n) s (2 ^ 32) in
+    rw (is, mul-comm s (16777619 ^ n % 2 ^ 32)) (low ∙ ap (λ (x : ℕ). x % 2 ^ 32) (mul-comm (16777619 ^ n) s) ∙ sym (rw (mod-eq-of-lt small) at whole))
+
 pub eight-zeros : (s : ℕ) → s < 2 ^ 32 → s * 1566662433 % 2 ^ 32 ≡ hashFrom s (replicate 8 0)
-eight-zeros s small =
-    let whole : hashFrom (s % 2 ^ 32) (replicate 8 0) ≡ s * 16777619 ^ 8 % 2 ^ 32 = zeros-product 8 s in
-    let low : 1566662433 * s % 2 ^ 32 ≡ 16777619 ^ 8 * s % 2 ^ 32 = mod-product (16777619 ^ 8) s (2 ^ 32) in
-    rw (mul-comm s 1566662433) (low ∙ ap (λ (x : ℕ). x % 2 ^ 32) (mul-comm (16777619 ^ 8) s) ∙ sym (rw (mod-eq-of-lt small) at whole))
+eight-zeros s small = zeros-power 8 1566662433 s refl small
+
+pub sixteen-zeros : (s : ℕ) → s < 2 ^ 32 → s * 878412353 % 2 ^ 32 ≡ hashFrom s (replicate 16 0)
+sixteen-zeros s small = zeros-power 16 878412353 s refl small
 
 -- bytes whose number is 0
 
@@ -51,7 +58,7 @@ twice-zero n bytes at low high number lows highs no-low no-high none j h = go (l
         let later = ltb-false j n e in
         subst (λ (i : ℕ). getD bytes i 0 ≡ 0) (omega arith) (highs (no-high none) (j - n) (omega arith))
 
-or-zero : (a b : ℕ) → bitOr a b ≡ 0 → (a ≡ 0) × (b ≡ 0)
+pub or-zero : (a b : ℕ) → bitOr a b ≡ 0 → (a ≡ 0) × (b ≡ 0)
 or-zero a b none = omega (arith, or-add-and a b, and-le-l a b, and-le-r a b)
 
 pub or-four-zero : (a b c d : ℕ) → bitOr (bitOr (bitOr a b) c) d ≡ 0 → (a ≡ 0) × (b ≡ 0) × (c ≡ 0) × (d ≡ 0)

@@ -1,4 +1,4 @@
-// 32-bit FNV-1a. Eight zeros at once are one product, and most bytes of a block are zeros.
+// 32-bit FNV-1a. Eight or sixteen zeros at once are one product, and most bytes of a block are zeros.
 ghost use mathlib.Core.Path.{_≡_};
 ghost use mathlib.Core.Bool.{true};
 ghost use Prim.Native.Nat.{_+_, _*_, _%_, _^_, _<_, _≤_};
@@ -38,6 +38,13 @@ fn mixed_zeros(state: u32) -> u32
     ensures { λ r. ⌜ r ≡ hashFrom state (replicate 8 0) ⌝ }
 {
     wrapping_mul(state, 1566662433)
+}
+
+// The state after sixteen zeros: 878412353 are the low 32 bits of 16777619^16.
+fn sixteen_zeros(state: u32) -> u32
+    ensures { λ r. ⌜ r ≡ hashFrom state (replicate 16 0) ⌝ }
+{
+    wrapping_mul(state, 878412353)
 }
 
 // The number that two bytes make.
@@ -91,18 +98,54 @@ struct Part {
     at: usize,
 }
 
+// The bits that are set in either of two words.
+fn pair_at(bytes: &[u8], at: usize) -> u64
+    requires { ⌜ at + 16 ≤ length (now bytes) ⌝ }
+    ensures { λ r. ⌜ ZeroIf 16 (now (bytes .entry)) at r ⌝ }
+{
+    eight_at(bytes, at) | eight_at(bytes, at + 8)
+}
+
+// The hash past the pairs of words from here on that are zeros: of a block that is hashed alone each product waits for the one before it, so they are to be few.
+fn past_pairs(from: Part, bytes: &[u8]) -> Part
+    requires { ⌜ Reached 2166136261 (now bytes) (from .at) (from .state) ⌝ }
+    ensures { λ r. ⌜ Reached 2166136261 (now (bytes .entry)) (r .at) (r .state) × (from .at ≤ r .at) ⌝ }
+{
+    let mut state = from.state;
+    let mut at = from.at;
+    while 16 <= bytes.len() - at {
+        if pair_at(bytes, at) != 0 {
+            return Part { state, at };
+        }
+        state = sixteen_zeros(state);
+        at += 16;
+    }
+    Part { state, at }
+}
+
+// The hash past one word, and past the zeros behind it.
+fn next_word(from: Part, bytes: &[u8]) -> Part
+    requires { ⌜ Reached 2166136261 (now bytes) (from .at) (from .state) × (from .at + 8 ≤ length (now bytes)) ⌝ }
+    ensures { λ r. ⌜ Reached 2166136261 (now (bytes .entry)) (r .at) (r .state) × (from .at < r .at) ⌝ }
+{
+    let at = from.at;
+    let end = at + 8;
+    let state = mixed_word(from.state, &bytes[at..end]);
+    past_pairs(Part { state, at: end }, bytes)
+}
+
 // The hash of bytes up to the end of their last word.
 fn hash_words(bytes: &[u8]) -> Part
     ensures { λ r. ⌜ Reached 2166136261 (now (bytes .entry)) (r .at) (r .state) ⌝ }
 {
-    let mut state: u32 = 2166136261;
-    let mut at = 0;
-    while 8 <= bytes.len() - at {
-        let end = at + 8;
-        state = mixed_word(state, &bytes[at..end]);
-        at = end;
+    let mut part = Part {
+        state: 2166136261,
+        at: 0,
+    };
+    while 8 <= bytes.len() - part.at {
+        part = next_word(part, bytes);
     }
-    Part { state, at }
+    part
 }
 
 // The hash of all of bytes.

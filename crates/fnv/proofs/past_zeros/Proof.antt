@@ -52,10 +52,10 @@ loop-again c =
     let lengths = inv .1 in
     let mixed = c .four-zeros .ensures in (
       record {
-        first = chain-zeros (reached .first) (mixed .first) (omega arith) (zeros .0 none);
-        second = chain-zeros (reached .second) (mixed .second) (omega arith) (zeros .1 none);
-        third = chain-zeros (reached .third) (mixed .third) (omega arith) (zeros .2 none);
-        fourth = chain-zeros (reached .fourth) (mixed .fourth) (omega arith) (zeros .3 none);
+        first = chain-zeros 8 (reached .first) (mixed .first) (omega arith) (zeros .0 none);
+        second = chain-zeros 8 (reached .second) (mixed .second) (omega arith) (zeros .1 none);
+        third = chain-zeros 8 (reached .third) (mixed .third) (omega arith) (zeros .2 none);
+        fourth = chain-zeros 8 (reached .fourth) (mixed .fourth) (omega arith) (zeros .3 none);
       },
       lengths,
       omega arith,

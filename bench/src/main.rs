@@ -613,7 +613,7 @@ fn main() {
     println!(
         "plain: one walk over the reads and counts, as the planner; by line: one word per line"
     );
-    println!("all three hash four blocks side by side, zeros eight at a time; medians of {ROUNDS} rounds in turns, the files of a row in rotation");
+    println!("all three hash four blocks side by side, zeros eight at a time, the planner sixteen where a block is alone; medians of {ROUNDS} rounds in turns, the files of a row in rotation");
     for (name, files) in planned() {
         plan_row(&name, &files);
     }

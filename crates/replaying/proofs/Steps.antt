@@ -13,10 +13,10 @@ use native.Mathlib.Omega.{arith}
 use lib.Dec.{eqb, leb, ltb}
 use lib.ListN.{length, getD, set, drop, replicate, length-set, getD-replicate, List·getD-eq-default}
 use lib.Seq.{drop-cons, getD-drop, getD-set-same, getD-set-other, take-length}
-use borrow.Author.Tests.{ne-eqb, eqb-true, eqb-false, ltb-true, lt-ltb}
+use borrow.Author.Tests.{eqb-true, eqb-false, ltb-true, lt-ltb}
 use Rattle.model.specs.Sets.{bit}
 use Rattle.model.specs.Task.{Task, blockCount, lineCount}
-use Rattle.model.specs.Lines.{lineOf, onLine, sameBlock, readsOf, blockAt, evicted}
+use Rattle.model.specs.Lines.{lineOf, sameBlock, readsOf, blockAt, evicted}
 use Rattle.model.specs.Lists.{steps, every, rightPoint, regions, total, wellFormed}
 use Rattle.model.specs.Regions.{regionLines, lines}
 use Rattle.model.specs.Replay.{emptyCache, misses, missesAlone, missesWith}
@@ -24,9 +24,10 @@ use Rattle.model.specs.declared.Line.{Line}
 use Rattle.model.specs.declared.Line.the-variants.{Empty, Held}
 use Rattle.model.specs.declared.Mapping.the-variants.{Uncached, Cached}
 use Rattle.model.proofs.Histories.{readsBefore, History, history-none, history-more}
-use Rattle.model.proofs.LineStates.{lies-on, lies-nowhere}
+use Rattle.model.proofs.LineStates.{lies-on}
 use Rattle.model.proofs.Loads.{loadedBy, loaded-none, loaded-all, loaded-more}
 use Rattle.model.proofs.ReadOrder.{allReads, edge, edge-end}
+use Rattle.cacheline.proofs.Below.{nowhere-placed}
 use Rattle.model.proofs.Replay.{misses-alone, misses-skip, misses-more, added-misses}
 use Rattle.replaying.specs.declared.Passed.{Passed}
 
@@ -70,13 +71,10 @@ module _ (t : Task) (ps : List ℕ) where
         record {
           long-held = w .long-held;
           long-since = w .long-since;
-          history = history-more t i j m hi hj is 512 nowhere (λ l. absurd (omega arith)) (λ d n. (refl, refl)) (w .history);
+          history = history-more t i j m hi hj is 512 (nowhere-placed t m at) (λ l. absurd (omega arith)) (λ d n. (refl, refl)) (w .history);
           alone-is = w .alone-is ∙ sym (misses-skip t i j m hi hj is at);
-          preempted-is = omega (arith, w .preempted-is, rw behind at (loaded-more t (evicted t) i j m hi hj is (passed .last) before 512 (omega arith) nowhere behind (w .history)));
+          preempted-is = omega (arith, w .preempted-is, rw behind at (loaded-more t (evicted t) i j m hi hj is (passed .last) before 512 (omega arith) (nowhere-placed t m at) behind (w .history)));
         }
-      where
-        nowhere : (d : ℕ) → d < 512 → onLine t d m ≡ eqb d 512
-        nowhere d l = lies-nowhere t m at d ∙ sym (ne-eqb d 512 (λ (e : d ≡ 512). omega arith))
 
     -- on this line; x and y are its misses
     pub read-more : (line k x y : ℕ) → line < 512 → lineOf t m ≡ Cached line → evicted t 512 ≡ false → k ≡ suc i → x ≡ bit (not (sameBlock (getD held line Empty) (Held m)))

@@ -8,17 +8,16 @@ use native.Mathlib.Omega.{arith}
 use native.Mathlib.Numerals.{add-one}
 use lib.ListN.{length, getD, length-set, getD-replicate}
 use lib.Seq.{getD-set-same, getD-set-other}
-use borrow.Author.Tests.{ne-eqb}
 use borrow.Author.Needs.{needs}
 use Rattle.model.specs.Task.{blockCount}
 use Rattle.model.specs.Lines.{blockAt, readsOf, stateAfter}
 use Rattle.model.specs.declared.Line.the-variants.{Empty}
 use Rattle.model.proofs.Histories.{Holds, holds-none, holds-more}
-use Rattle.model.proofs.LineStates.{lies-on, lies-nowhere}
+use Rattle.model.proofs.LineStates.{lies-on}
 use Rattle.model.proofs.ReadOrder.{edge, edge-suc, take-edge}
 use Rattle.taskfile.specs.File.{taskOf}
 use Rattle.taskfile.proofs.Accepted as accepted-file
-use Rattle.cacheline.proofs.Below.{line-below}
+use Rattle.cacheline.proofs.Below.{line-below, nowhere-placed}
 use Rattle.reuse.proofs.held_after.Statement.{statement}
 use Rattle.reuse.proofs.held_after.Tie as tie
 
@@ -96,11 +95,10 @@ loop2-again c =
     let next : edge t (outer .i) + (inner .j + 1) ≡ suc (edge t (outer .i) + inner .j) = omega arith in
     ⊎-elim
     (λ w.
-    let nowhere = lies-nowhere t (number .result) (is ∙ w .1 .given .1) in
     rw (w .2, next) (
       omega arith,
       inner .inv .1,
-      holds-more t (outer .i) (inner .j) (number .result) inside counted number-is 512 (λ d l. nowhere d ∙ sym (ne-eqb d 512 (λ (e : d ≡ 512). omega arith)))
+      holds-more t (outer .i) (inner .j) (number .result) inside counted number-is 512 (nowhere-placed t (number .result) (is ∙ w .1 .given .1))
           (λ l. absurd (omega arith)) (λ d n. refl) (inner .inv .2),
     ))
     (λ w.

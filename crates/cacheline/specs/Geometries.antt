@@ -1,15 +1,17 @@
 -- What the geometry of a cache holds of a task. Assumes nothing.
 use Prim.Native.Nat.{ℕ, _+_, _*_, _/_, _%_, _^_, _≤_, _<_}
 use mathlib.Core.Path.{_≡_}
+use mathlib.Core.Bool.{not, _&&_}
 use lib.Bits.{bitAnd}
 use lib.Dec.{eqb}
 use Rattle.model.specs.Task.{Task, lineCount}
-use Rattle.model.specs.Lines.{onLine}
+use Rattle.model.specs.Lines.{bypasses, onLine}
 use Rattle.model.specs.declared.Mapping.{Mapping}
 use Rattle.model.specs.declared.Mapping.the-variants.{Uncached, Cached}
 use Rattle.cacheline.specs.declared.Divider.{Divider}
 use Rattle.cacheline.specs.declared.Geometry.{Geometry}
 use Rattle.cacheline.specs.declared.Power.{Power}
+use Rattle.cacheline.specs.declared.Slot.{Slot}
 
 -- a divider by s: right for every 32-bit number, and what it computes has at most 64 bits
 pub record Divides (s : ℕ) (d : Divider) : Type 0 where
@@ -49,6 +51,7 @@ abbrev pub WithinCache : Mapping → Type 0
 WithinCache Uncached = Unit
 WithinCache (Cached c) = c < 512
 
--- memory block m lies on the line of this number, and on none if it is 512, the place behind the lines
-abbrev pub InPlace : Task → ℕ → ℕ → Type 0
-InPlace t m place = (d : ℕ) → d < 512 → onLine t d m ≡ eqb d place
+-- memory block m is cached unless it bypasses the cache, and then lies on the slot's line alone
+pub record SlotOf (t : Task) (m : ℕ) (s : Slot) : Type 0 where
+  pub is-cached : s .cached ≡ not (bypasses t m)
+  pub lies : (d : ℕ) → onLine t d m ≡ (eqb d (s .line) && s .cached)

@@ -1,11 +1,12 @@
 // The geometry of an accepted file's cache, and the line of a memory block in it.
 ghost use mathlib.Core.Path.{_≡_};
 ghost use Prim.Native.Nat.{_%_, _≤_, _<_};
+ghost use lib.Dec.{eqb};
 ghost use Rattle.model.specs.Task.{Task};
 ghost use Rattle.model.specs.Lines.{lineOf, onLine};
 ghost use Rattle.model.specs.Lines as Lines;
 ghost use Rattle.taskfile.specs.File.{IsAccepted, taskOf};
-ghost use Rattle.cacheline.specs.Geometries.{Divides, Masks, PowerFor, Sound, GeometryOf, WithinCache, InPlace};
+ghost use Rattle.cacheline.specs.Geometries.{Divides, Masks, PowerFor, Sound, GeometryOf, WithinCache, SlotOf};
 use model::Mapping;
 
 // Three numbers that divide by a count: the quotient of any 32-bit number is (number * factor + addend) >> shift.
@@ -23,6 +24,13 @@ pub struct Geometry {
     pub mask: u32,
     pub first: u32,
     pub bypassing: u32,
+}
+
+// Where a memory block goes: its remainder by the line count, and whether it is cached there. A
+// memory block of the scratch range is not.
+pub struct Slot {
+    pub line: usize,
+    pub cached: bool,
 }
 
 // The geometry of a file's cache.
@@ -118,13 +126,23 @@ impl Geometry {
         }
     }
 
-    // The place of a memory block in arrays over the lines: its line, or 512 behind them. Both are computed, so that there is no branch.
-    pub fn place_of(self, number: u32) -> usize
+    // The slot of a memory block. Both fields are computed, so that a walk over the reads chooses
+    // between values and needs no branch.
+    pub fn slot_of(self, number: u32) -> Slot
         requires { ⌜ Sound self ⌝ }
-        ensures { λ r. ⌜ ((t : Task) → GeometryOf t self → InPlace t number r) × (r < 513) ⌝ }
+        ensures { λ r. ⌜ ((t : Task) → GeometryOf t self → SlotOf t number r) × (r .line < 512) ⌝ }
     {
-        let line = self.remainder(number);
-        if self.bypasses(number) { 512 } else { line }
+        Slot {
+            line: self.remainder(number),
+            cached: !self.bypasses(number),
+        }
+    }
+
+    // Whether the file has no scratch range, so that every memory block is cached.
+    pub fn caches_all(self) -> bool
+        ensures { λ r. ⌜ ((t : Task) → GeometryOf t self → r ≡ eqb (t .header .scratch .count) 0) ⌝ }
+    {
+        self.bypassing == 0
     }
 
     // Whether a memory block lies on line c.

@@ -1,10 +1,11 @@
--- What a walk over a task's reads keeps of the lines: what each of them holds after the reads passed, and the block that read it last. Whoever
--- walks the reads keeps this in arrays of its own, and each read more is one step of it. Of a line that holds nothing the block may be any. A read that
--- lies on no line has a place behind them, such as 512.
+-- What a walk over a task's reads keeps of the lines: what each of them holds after the reads
+-- passed, and the block that read it last. A walk keeps this in arrays of its own, and each read
+-- is one step of it. For a line that holds nothing the block may be any number. A read names one
+-- line and whether it lies on it: a read that bypasses the cache changes nothing there.
 -- Assumes nothing.
 use Prim.Native.Nat.{ℕ, suc, _+_, _≤_, _<_}
 use mathlib.Core.Path.{_≡_, refl, sym, ap, _∙_}
-use mathlib.Core.Bool.{Bool, true, false, cond, _&&_, _||_, or-false, or-true}
+use mathlib.Core.Bool.{Bool, true, false, cond, _&&_, _||_, and-true, and-false, or-false, or-true}
 use mathlib.Core.Logic.{by-cases}
 use mathlib.Core.List.{List, [], _∷_, _++_}
 use native.Mathlib.Omega.{arith}
@@ -14,10 +15,11 @@ use lib.ListN.{length, getD, take, drop, length-take, drop-of-length-le, take-ap
 use lib.Seq.{take-suc, take-take, drop-append-le, drop-nil}
 use borrow.Author.Tests.{eq-eqb, ne-eqb, lt-ltb, le-ltb}
 use Rattle.model.specs.Task.{Task, blockCount}
-use Rattle.model.specs.Lines.{onLine, lastRead, anyRead, blockAt}
+use Rattle.model.specs.Lines.{lineOf, onLine, lastRead, anyRead, blockAt}
 use Rattle.model.specs.declared.Line.{Line}
 use Rattle.model.specs.declared.Line.the-variants.{Empty, Held}
-use Rattle.model.proofs.LineStates.{last-append, last-take, last-unread, any-append}
+use Rattle.model.specs.declared.Mapping.the-variants.{Uncached, Cached}
+use Rattle.model.proofs.LineStates.{last-append, last-take, last-unread, any-append, lies-on, lies-nowhere}
 use Rattle.model.proofs.ReadOrder.{allReads, edge, edge-rises, edge-end, edge-suc, read-at}
 
 -- the first p reads of a task, and those of them after edge k
@@ -40,6 +42,16 @@ Holds t p held = (c : ℕ) → c < 512 → held c ≡ lastRead (onLine t c) Empt
 pub record History (t : Task) (p : ℕ) (held : ℕ → Line) (since : ℕ → ℕ) : Type 0 where
   pub holds : Holds t p held
   pub last : (c : ℕ) → c < 512 → (k : ℕ) → anyRead (onLine t c) (readsSince t k p) ≡ (isHeld (held c) && ltb k (since c))
+
+-- memory block m lies on this line if `on`, and on no other
+abbrev pub LiesOn : Task → ℕ → ℕ → Bool → Type 0
+LiesOn t m line on = (d : ℕ) → onLine t d m ≡ (eqb d line && on)
+
+pub lies-cached : (t : Task) (m line : ℕ) → lineOf t m ≡ Cached line → LiesOn t m line true
+lies-cached t m line e d = lies-on t m line e d ∙ sym (and-true (eqb d line))
+
+pub lies-uncached : (t : Task) (m : ℕ) → lineOf t m ≡ Uncached → LiesOn t m 0 false
+lies-uncached t m e d = lies-nowhere t m e d ∙ sym (and-false (eqb d 0))
 
 -- before the first read
 pub holds-none : (t : Task) {held : ℕ → Line} → ((c : ℕ) → c < 512 → held c ≡ Empty) → Holds t 0 held
@@ -86,32 +98,41 @@ module _ (t : Task) (i j m : ℕ) (hi : i < blockCount t) (hj : j < length (bloc
       (λ h. ap (anyRead (onLine t c)) (none-yet k (suc (edge t i + j)) h (omega arith) ∙ sym (none-yet k (edge t i + j) h (omega arith))))
       (λ h. any-more c k (omega arith) ∙ rw off (or-false _))
 
-  -- it lies on the line of this place, if the place is one: the line then holds it, and block i + 1 has read it last
-  pub holds-more : {held held′ : ℕ → Line} (line : ℕ) → ((d : ℕ) → d < 512 → onLine t d m ≡ eqb d line) → (line < 512 → held′ line ≡ Held m)
-      → ((d : ℕ) → (d ≡ line → ⊥) → held′ d ≡ held d) → Holds t (edge t i + j) held → Holds t (suc (edge t i + j)) held′
-  holds-more line at here there h c l =
-      by-cases (ℕ-discrete c line)
-      (λ e. rw e (here (omega arith) ∙ sym (state-more line ∙ rw (at line (omega arith), eq-eqb line line refl) refl)))
-      (λ n. there c n ∙ h c l ∙ sym (state-more c ∙ rw (at c l, ne-eqb c line n) refl))
+  -- it lies on this line, or on none
+  module _ (line : ℕ) (on : Bool) (at : LiesOn t m line on) where
+    not-there : (d : ℕ) → (d ≡ line → ⊥) → onLine t d m ≡ false
+    not-there d n = at d ∙ rw (ne-eqb d line n) refl
 
-  pub history-more : {held held′ : ℕ → Line} {since since′ : ℕ → ℕ} (line : ℕ) → ((d : ℕ) → d < 512 → onLine t d m ≡ eqb d line)
-      → (line < 512 → (held′ line ≡ Held m) × (since′ line ≡ suc i)) → ((d : ℕ) → (d ≡ line → ⊥) → (held′ d ≡ held d) × (since′ d ≡ since d))
-      → History t (edge t i + j) held since → History t (suc (edge t i + j)) held′ since′
-  unfolding anyRead
-  history-more {held} {held′} {since} {since′} line at here there h =
-      record {
-        holds = holds-more line at (λ l. here l .0) (λ d n. there d n .0) (h .holds);
-        last = λ c l k. by-cases (ℕ-discrete c line) (λ e. rw e (on-it (omega arith) k)) (λ n. off-it c l n k);
-      }
-    where
-      on-it : line < 512 → (k : ℕ) → anyRead (onLine t line) (readsSince t k (suc (edge t i + j))) ≡ (isHeld (held′ line) && ltb k (since′ line))
-      on-it low k =
-          rw (here low .0, here low .1)
-          (by-cases (decLt i k) (λ l. ap (anyRead (onLine t line)) (none-yet k (suc (edge t i + j)) l (omega arith)) ∙ sym (le-ltb k (suc i) (omega arith)))
-          (λ l. any-more line k (omega arith) ∙ rw (at line low, eq-eqb line line refl, or-true, lt-ltb k (suc i) (omega arith)) refl))
+    there-if : onLine t line m ≡ on
+    there-if = at line ∙ rw (eq-eqb line line refl) refl
 
-      off-it : (c : ℕ) → c < 512 → (c ≡ line → ⊥) → (k : ℕ) → anyRead (onLine t c) (readsSince t k (suc (edge t i + j))) ≡ (isHeld (held′ c) && ltb k (since′ c))
-      off-it c l n k = any-same c k (at c l ∙ ne-eqb c line n) ∙ rw (there c n .0, there c n .1) (h .last c l k)
+    -- if it lies on the line, the line then holds it
+    pub holds-more : {held held′ : ℕ → Line} → held′ line ≡ cond on (Held m) (held line) → ((d : ℕ) → (d ≡ line → ⊥) → held′ d ≡ held d)
+        → Holds t (edge t i + j) held → Holds t (suc (edge t i + j)) held′
+    holds-more here there h c l =
+        by-cases (ℕ-discrete c line)
+        (λ e. rw e (here ∙ ap (cond on (Held m)) (h line (omega arith)) ∙ sym (state-more line ∙ rw there-if refl)))
+        (λ n. there c n ∙ h c l ∙ sym (state-more c ∙ rw (not-there c n) refl))
+
+    -- and block i + 1 has read it last
+    pub history-more : {held held′ : ℕ → Line} {since since′ : ℕ → ℕ} → held′ line ≡ cond on (Held m) (held line) → since′ line ≡ cond on (suc i) (since line)
+        → ((d : ℕ) → (d ≡ line → ⊥) → (held′ d ≡ held d) × (since′ d ≡ since d)) → History t (edge t i + j) held since → History t (suc (edge t i + j)) held′ since′
+    unfolding anyRead
+    history-more {held} {held′} {since} {since′} holds-now read-now others h =
+        record {
+          holds = holds-more holds-now (λ d n. others d n .0) (h .holds);
+          last =
+              λ c l k.
+              by-cases (ℕ-discrete c line) (λ e. rw (e, holds-now, read-now) (on-it on there-if k (omega arith)))
+              (λ n. any-same c k (not-there c n) ∙ rw (others c n .0, others c n .1) (h .last c l k));
+        }
+      where
+        on-it : (b : Bool) → onLine t line m ≡ b → (k : ℕ) → line < 512
+            → anyRead (onLine t line) (readsSince t k (suc (edge t i + j))) ≡ (isHeld (cond b (Held m) (held line)) && ltb k (cond b (suc i) (since line)))
+        on-it true e k l =
+            by-cases (decLt i k) (λ o. ap (anyRead (onLine t line)) (none-yet k (suc (edge t i + j)) o (omega arith)) ∙ sym (le-ltb k (suc i) (omega arith)))
+            (λ o. any-more line k (omega arith) ∙ rw (e, or-true, lt-ltb k (suc i) (omega arith)) refl)
+        on-it false e k l = any-same line k e ∙ h .last line l k
 
 -- a line on which no read lies since edge k holds what it held there
 pub state-from : (t : Task) (c k p : ℕ) → edge t k ≤ p → anyRead (onLine t c) (readsSince t k p) ≡ false

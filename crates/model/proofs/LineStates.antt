@@ -84,13 +84,17 @@ module _ (t : Task) (m : ℕ) where
   lies-nowhere e c = ap (isLine c) e
 
 module _ (t : Task) (e : t .header .scratch .count ≡ 0) where
-  remainder-line : (m : ℕ) → lineOf t m ≡ Cached (m % lineCount t)
-  unfolding lineOf bypasses
-  remainder-line m = rw (e, outside (leb (t .header .scratch .first) m) refl) refl
+  pub none-bypasses : (m : ℕ) → bypasses t m ≡ false
+  unfolding bypasses
+  none-bypasses m = rw e (outside (leb (t .header .scratch .first) m) refl)
     where
       outside : (b : Bool) → leb (t .header .scratch .first) m ≡ b → (b && ltb m (t .header .scratch .first + 0)) ≡ false
       outside true h = le-ltb m (t .header .scratch .first + 0) (omega (arith, leb-true (t .header .scratch .first) m h))
       outside false h = refl
+
+  remainder-line : (m : ℕ) → lineOf t m ≡ Cached (m % lineCount t)
+  unfolding lineOf
+  remainder-line m = rw (none-bypasses m) refl
 
   on-remainder : (c : ℕ) → onLine t c ≡ onRemainder t c
   unfolding onLine

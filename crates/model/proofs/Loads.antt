@@ -3,7 +3,7 @@
 -- does is told by the line's history. All of it is said of any set of lines in place of H, since charges count parts of H. Assumes nothing.
 use Prim.Native.Nat.{ℕ, zero, suc, _+_, _-_, _≤_, _<_}
 use mathlib.Core.Path.{_≡_, refl, sym, ap, _∙_}
-use mathlib.Core.Bool.{Bool, true, false, cond, _&&_, and-true, and-false, and-comm}
+use mathlib.Core.Bool.{Bool, true, false, cond, _&&_, and-true, and-false, and-comm, and-assoc}
 use mathlib.Core.List.{List, [], _∷_, append-nil}
 use mathlib.Core.Logic.{by-cases}
 use native.Mathlib.Decide.{decLt}
@@ -22,7 +22,7 @@ use Rattle.model.specs.declared.Line.the-variants.{Empty, Held}
 use Rattle.model.proofs.Digits.{count-agree, count-le, count-none, count-one, count-sum}
 use Rattle.model.proofs.LineStates.{any-append, first-none, first-append, never-empty}
 use Rattle.model.proofs.ReadOrder.{edge, edge-rises, take-edge, reads-append}
-use Rattle.model.proofs.Histories.{readsSince, isHeld, History, one-more, state-from}
+use Rattle.model.proofs.Histories.{readsSince, isHeld, LiesOn, History, one-more, state-from}
 
 module _ (t : Task) where
   -- the blocks of a region
@@ -141,29 +141,27 @@ module _ (t : Task) (h : Lines) where
     unfolding firstRead
     first-more c = ap (firstRead (onLine t c)) (one-more t i j m hi hj is a ha) ∙ first-append (onLine t c) (readsSince t a (edge t i + j)) (m ∷ [])
 
-    -- it lies on the line of this place, if any: the region loads the line if it is of h and holds m since a block up to the region's edge
-    pub loaded-more : {held : ℕ → Line} {since : ℕ → ℕ} (line : ℕ) → line < 513 → ((d : ℕ) → d < 512 → onLine t d m ≡ eqb d line) → h 512 ≡ false → History t (edge t i + j) held since
-        → loadedBy t h a (suc (edge t i + j)) ≡ loadedBy t h a (edge t i + j) + bit (h line && sameBlock (held line) (Held m) && leb (since line) a)
+    -- it lies on this line, or on none: the region loads the line if it is of h and holds m since a block up to the region's edge
+    pub loaded-more : {held : ℕ → Line} {since : ℕ → ℕ} (line : ℕ) (on : Bool) → line < 512 → LiesOn t m line on → History t (edge t i + j) held since
+        → loadedBy t h a (suc (edge t i + j)) ≡ loadedBy t h a (edge t i + j) + bit (h line && on && sameBlock (held line) (Held m) && leb (since line) a)
     unfolding loadedBy stateAfter
-    loaded-more {held} {since} line hl at behind w =
+    loaded-more {held} {since} line on low at w =
         let each = count-sum 512 (λ c. h c && sameBlock (stateAfter t a c) (firstRead (onLine t c) (readsSince t a (suc (edge t i + j))))) (λ c. false)
         (λ c. h c && sameBlock (stateAfter t a c) (firstRead (onLine t c) (readsSince t a (edge t i + j))))
-        (λ c. eqb c line && (h c && sameBlock (held c) (Held m) && leb (since c) a)) line-by-line in
-        omega (arith, each, count-none 512 (λ c. false) (λ c _. refl), one)
+        (λ c. eqb c line && (h c && on && sameBlock (held c) (Held m) && leb (since c) a)) line-by-line in
+        omega (arith, each, count-none 512 (λ c. false) (λ c _. refl), count-one 512 line (λ c. h c && on && sameBlock (held c) (Held m) && leb (since c) a) low)
       where
-        one : countBelow 512 (λ c. eqb c line && (h c && sameBlock (held c) (Held m) && leb (since c) a)) ≡ bit (h line && sameBlock (held line) (Held m) && leb (since line) a)
-        one =
-            by-cases (decLt line 512) (λ l. count-one 512 line (λ c. h c && sameBlock (held c) (Held m) && leb (since c) a) l)
-            (λ l.
-            let last : line ≡ 512 = omega arith in
-            count-none 512 _ (λ c low. rw (ne-eqb c line (λ (e : c ≡ line). omega arith)) refl) ∙ sym (rw (last, behind) refl))
+        regroup : (e h x y : Bool) → (e && on && (h && x && y)) ≡ (e && (h && on && x && y))
+        regroup false h x y = refl
+        regroup true true x y = sym (and-assoc on x y)
+        regroup true false x y = and-false on
 
         line-by-line : (c : ℕ) → c < 512
             → bit (h c && sameBlock (stateAfter t a c) (firstRead (onLine t c) (readsSince t a (suc (edge t i + j))))) + bit false
             ≡ bit (h c && sameBlock (stateAfter t a c) (firstRead (onLine t c) (readsSince t a (edge t i + j)))) +
-            bit (eqb c line && (h c && sameBlock (held c) (Held m) && leb (since c) a))
+            bit (eqb c line && (h c && on && sameBlock (held c) (Held m) && leb (since c) a))
         line-by-line c low =
-            rw (first-more c, ← (at c low))
+            rw (first-more c, ← (regroup (eqb c line) (h c) (sameBlock (held c) (Held m)) (leb (since c) a)), ← (at c))
             (one-line (onLine t c m) (h c) (anyRead (onLine t c) (readsSince t a (edge t i + j))) (stateAfter t a c) (held c)
             (firstRead (onLine t c) (readsSince t a (edge t i + j))) m (since c) a
             (λ e. w .holds c low ∙ state-from t c a (edge t i + j) (omega (arith, edge-rises t a i ha)) e ∙ ap (lastRead (onLine t c) Empty) (take-edge t a))

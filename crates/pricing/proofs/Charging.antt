@@ -1,4 +1,4 @@
--- The charges of the walk that counts a list's lines: what each preempter was charged for the regions behind, and for the reads so far of the
+-- The charges of the walk that counts a list's lines: what each preempter was charged for the regions before, and for the reads so far of the
 -- region that the walk is in. A preempter's lines are a part of H, and a read that loads its line adds one to the charge of the line's first
 -- preempter alone. Assumes nothing.
 use Prim.Native.Nat.{ℕ, suc, _+_, _*_, _%_, _≤_, _<_}
@@ -15,13 +15,14 @@ use lib.Seq.{getD-set-same, getD-set-other, ext-getD}
 use borrow.Author.Tests.{eq-eqb, ne-eqb, lt-ltb}
 use Rattle.model.specs.Sets.{Lines, bit, table}
 use Rattle.model.specs.Task.{Task, blockCount, preempterCount}
-use Rattle.model.specs.Lines.{onLine, sameBlock, blockAt, evicted}
+use Rattle.model.specs.Lines.{sameBlock, blockAt, evicted}
 use Rattle.model.specs.Lists.{total}
 use Rattle.model.specs.Charges.{firstTouching, isAt, chargedTo, regionCharge, charge, charges}
 use Rattle.model.specs.declared.Line.{Line}
 use Rattle.model.specs.declared.Line.the-variants.{Empty, Held}
 use Rattle.model.proofs.Sets.{table-length, table-at}
 use Rattle.model.proofs.Charges.{FirstOf, first-of}
+use Rattle.model.proofs.Histories.{LiesOn}
 use Rattle.model.proofs.Loads.{loadedBy, loaded-few, loaded-none, loaded-part}
 use Rattle.model.proofs.ReadOrder.{edge}
 use Rattle.reuse.specs.States.{markOf}
@@ -96,20 +97,20 @@ module _ (t : Task) (most : preempterCount t ≤ 32) (line mark : ℕ) (is : mar
       go (inl none) = rw (is, none .0, none .1) refl
       go (inr some) = rw (is, some .0, some .1 .is-at) (lt-ltb (some .1 .index) 32 (omega (arith, some .1 .below)))
 
-  one-owner : (k : ℕ) → k < 32 → (x y : Bool) → bit (part t k line && x && y) ≡ cond (eqb k (mark % 32)) (bit (evicted t line && x && y)) 0
+  one-owner : (k : ℕ) → k < 32 → (x y z : Bool) → bit (part t k line && x && y && z) ≡ cond (eqb k (mark % 32)) (bit (evicted t line && x && y && z)) 0
   unfolding chargedTo
-  one-owner k l x y = go (first-of t line)
+  one-owner k l x y z = go (first-of t line)
     where
       none-here : (b : Bool) → _≡_ {A = ℕ} 0 (cond b 0 0)
       none-here true = refl
       none-here false = refl
 
-      one-here : (b : Bool) → bit (b && x && y) ≡ cond b (bit (x && y)) 0
+      one-here : (b : Bool) → bit (b && x && y && z) ≡ cond b (bit (x && y && z)) 0
       one-here true = refl
       one-here false = refl
 
       go : FirstOf (preempterCount t) (evicted t line) (firstTouching t line)
-          → bit (evicted t line && isAt k (firstTouching t line) && x && y) ≡ cond (eqb k (mark % 32)) (bit (evicted t line && x && y)) 0
+          → bit (evicted t line && isAt k (firstTouching t line) && x && y && z) ≡ cond (eqb k (mark % 32)) (bit (evicted t line && x && y && z)) 0
       go (inl none) = rw (none .0) (none-here (eqb k (mark % 32)))
       go (inr some) =
           let own : mark % 32 ≡ some .1 .index = rw (is, some .1 .is-at) (omega (arith, some .1 .below)) in
@@ -118,20 +119,20 @@ module _ (t : Task) (most : preempterCount t ≤ 32) (line mark : ℕ) (is : mar
 -- read j of block i + 1, of number m
 module _ (t : Task) (i j m : ℕ) (hi : i < blockCount t) (hj : j < length (blockAt t i .reads)) (is : getD (blockAt t i .reads) j 0 ≡ m)
     {ps : List ℕ} {r : ℕ} {cs : List ℕ} (l : startOf t ps r ≤ i) (w : Charged t ps r (edge t i + j) cs) where
-  -- it lies on the line of this place, if any, which has this mark
-  pub charged-more : {held : List Line} {since : List ℕ} (known : Known t (edge t i + j) (suc i) r (startOf t ps r) held since) (line : ℕ) → line < 513
-      → ((d : ℕ) → d < 512 → onLine t d m ≡ eqb d line) → evicted t 512 ≡ false → preempterCount t ≤ 32 → (mark n : ℕ) → mark ≡ markOf (firstTouching t line)
-      → n ≡ bit (evicted t line && sameBlock (getD held line Empty) (Held m) && ltb (getD since line 0) (suc r))
+  -- it lies on this line, which has this mark, or on none
+  pub charged-more : {held : List Line} {since : List ℕ} (known : Known t (edge t i + j) (suc i) r (startOf t ps r) held since) (line : ℕ) (on : Bool) → line < 512
+      → LiesOn t m line on → preempterCount t ≤ 32 → (mark n : ℕ) → mark ≡ markOf (firstTouching t line)
+      → n ≡ bit (evicted t line && on && sameBlock (getD held line Empty) (Held m) && ltb (getD since line 0) (suc r))
       → Charged t ps r (suc (edge t i + j)) (set cs (mark % 32) (getD cs (mark % 32) 0 + n))
-  charged-more {held} {since} known line hl at behind most mark n marked loads =
+  charged-more {held} {since} known line on hl at most mark n marked loads =
       record {
         behind = w .behind;
         few = w .few;
         long = length-set cs (mark % 32) _ ∙ w .long;
         whole = w .whole;
         here = λ k h.
-            let more = known-loads t i j m hi hj is l known line hl at (part t k) (rw behind refl) in
-            let own = one-owner t most line mark marked k h (sameBlock (getD held line Empty) (Held m)) (ltb (getD since line 0) (suc r)) in
+            let more = known-loads t i j m hi hj is l known line on hl at (part t k) in
+            let own = one-owner t most line mark marked k h on (sameBlock (getD held line Empty) (Held m)) (ltb (getD since line 0) (suc r)) in
             by-cases (ℕ-discrete k (mark % 32))
             (λ q.
             let mine = rw (eq-eqb k (mark % 32) q) at own in

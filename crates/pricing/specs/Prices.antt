@@ -1,5 +1,5 @@
 -- What pricing answers of a task t. Assumes nothing.
-use Prim.Native.Nat.{ℕ, _≤_}
+use Prim.Native.Nat.{ℕ, _≤_, _<_}
 use mathlib.Core.Path.{_≡_}
 use mathlib.Core.List.{List, _∷_}
 use lib.ListN.{length, getD}
@@ -27,3 +27,7 @@ pub record ChargedPrices (t : Task) (ps : List ℕ) (r : ChargedPrice) : Type 0 
 pub record Loads (t : Task) (ps counts : List ℕ) : Type 0 where
   pub long : length counts ≡ 64
   pub loads : (i : ℕ) → i ≤ length ps → getD counts i 0 ≡ regionLines t (getD (0 ∷ ps) i (blockCount t)) (getD ps i (blockCount t))
+
+-- the entries past the regions of the list ps have not changed
+abbrev pub RestStays : (ps before after : List ℕ) → Type 0
+RestStays ps before after = (i : ℕ) → length ps < i → getD after i 0 ≡ getD before i 0

@@ -11,7 +11,7 @@ ghost use Rattle.model.specs.Charges as Charges;
 ghost use Rattle.model.specs.Charges.{noCharges};
 ghost use Rattle.model.specs.Answers.{onAccepted};
 ghost use Rattle.taskfile.specs.File.{IsAccepted, taskOf};
-ghost use Rattle.pricing.specs.Prices.{Prices, ChargedPrices, Loads};
+ghost use Rattle.pricing.specs.Prices.{Prices, ChargedPrices, Loads, RestStays};
 use model::Line;
 use model::Place;
 use model::Refusal;
@@ -74,18 +74,21 @@ pub fn charges_of(file: &[u8], points: &[u16]) -> [u32; 32]
     charges
 }
 
-// The lines of each region of a well-formed list, in one walk over the reads: what each line holds, and the region that read it last, from 1 on. A
-// read loads its line if that is of H, holds the number, and was read last in an earlier region.
+// The lines of each region of a well-formed list, in one walk over the reads: what each line holds,
+// and the region that read it last, from 1 on. A read loads its line if the line is of H, holds the
+// number, and was read last in an earlier region. Entries past the list's regions stay as they are.
 pub fn count_lines(file: &[u8], points: &[u16], lines: &mut [u32; 64])
     requires { ⌜ IsAccepted (now file) × (wrongPoint (blockCount (taskOf (now file))) (now points) ≡ Place.Nowhere) × (length (now lines) ≡ 64) ⌝ }
     ensures { λ _. ⌜ Loads (taskOf (now (file .entry))) (now (points .entry)) (now (lines .exit)) ⌝ }
+    ensures { λ _. ⌜ RestStays (now (points .entry)) (now (lines .entry)) (now (lines .exit)) ⌝ }
 {
     let cache = cacheline::geometry_of(file);
     let blocks = taskfile::block_count(file);
-    let mut evicted = [false; 513];
+    let whole = cache.caches_all();
+    let mut evicted = [false; 512];
     reuse::mark_evicted(&mut evicted, file, cache);
-    let mut held = [Line::Empty; 513];
-    let mut since = [0u8; 513];
+    let mut held = [Line::Empty; 512];
+    let mut since = [0u8; 512];
     let mut region = 0;
     let mut count = 0u32;
     let mut i = 0;
@@ -100,11 +103,17 @@ pub fn count_lines(file: &[u8], points: &[u16], lines: &mut [u32; 64])
         let mut j = 0;
         while j < reads {
             let number = taskfile::read(file, k, j);
-            let place = cache.place_of(number);
-            let line = held[place];
-            count += loads(line, number, evicted[place], since[place] < here);
-            held[place] = Line::Held(number);
-            since[place] = here;
+            let slot = cache.slot_of(number);
+            let c = slot.line;
+            let line = held[c];
+            let last = since[c];
+            count += loads(line, number, evicted[c] & slot.cached, last < here);
+            since[c] = reuse::if_cached(slot.cached, here, last);
+            if whole {
+                held[c] = Line::Held(number);
+            } else {
+                held[c] = reuse::line_after(line, number, slot.cached);
+            }
             j += 1;
         }
         lines[region] = count;
@@ -112,19 +121,20 @@ pub fn count_lines(file: &[u8], points: &[u16], lines: &mut [u32; 64])
     }
 }
 
-// The same walk with charges: each line's mark is the first preempter that touches it, and a read that loads the line adds one to that preempter's
-// charge. The charges are lent with zeros everywhere.
-pub fn charge_lines(file: &[u8], points: &[u16], lines: &mut [u32; 64], charges: &mut [u32; 32])
+// The same walk with charges: each line's mark is the first preempter that touches it, and a read
+// that loads the line adds one to that preempter's charge. The charges are lent with zeros everywhere.
+fn charge_lines(file: &[u8], points: &[u16], lines: &mut [u32; 64], charges: &mut [u32; 32])
     requires { ⌜ IsAccepted (now file) × (wrongPoint (blockCount (taskOf (now file))) (now points) ≡ Place.Nowhere) × (length (now lines) ≡ 64) × (now charges ≡ noCharges) ⌝ }
     ensures { λ _. ⌜ Loads (taskOf (now (file .entry))) (now (points .entry)) (now (lines .exit)) ⌝ }
     ensures { λ _. ⌜ now (charges .exit) ≡ Charges.charges (taskOf (now (file .entry))) (now (points .entry)) ⌝ }
 {
     let cache = cacheline::geometry_of(file);
     let blocks = taskfile::block_count(file);
-    let mut first = [32u8; 513];
+    let whole = cache.caches_all();
+    let mut first = [32u8; 512];
     reuse::mark_first(&mut first, file, cache);
-    let mut held = [Line::Empty; 513];
-    let mut since = [0u8; 513];
+    let mut held = [Line::Empty; 512];
+    let mut since = [0u8; 512];
     let mut region = 0;
     let mut count = 0u32;
     let mut i = 0;
@@ -139,15 +149,21 @@ pub fn charge_lines(file: &[u8], points: &[u16], lines: &mut [u32; 64], charges:
         let mut j = 0;
         while j < reads {
             let number = taskfile::read(file, k, j);
-            let place = cache.place_of(number);
-            let line = held[place];
-            let mark = first[place];
-            let loaded = loads(line, number, mark < 32, since[place] < here);
+            let slot = cache.slot_of(number);
+            let c = slot.line;
+            let line = held[c];
+            let last = since[c];
+            let mark = first[c];
+            let loaded = loads(line, number, (mark < 32) & slot.cached, last < here);
             let owner = (mark % 32) as usize;
             count += loaded;
             charges[owner] += loaded;
-            held[place] = Line::Held(number);
-            since[place] = here;
+            since[c] = reuse::if_cached(slot.cached, here, last);
+            if whole {
+                held[c] = Line::Held(number);
+            } else {
+                held[c] = reuse::line_after(line, number, slot.cached);
+            }
             j += 1;
         }
         lines[region] = count;

@@ -3,7 +3,7 @@
 -- in step with the edges. Assumes nothing.
 use Prim.Native.Nat.{ℕ, suc, _+_, _≤_, _<_}
 use mathlib.Core.Path.{_≡_, refl, sym, ap, _∙_}
-use mathlib.Core.Bool.{Bool, true, false, not, cond, _&&_, and-false, and-eq-true-iff}
+use mathlib.Core.Bool.{Bool, true, false, not, cond, _&&_, and-true, and-false, and-eq-true-iff}
 use mathlib.Core.List.{List, [], _∷_}
 use mathlib.Core.Logic.{by-cases}
 use native.Mathlib.Decide.{decLt}
@@ -23,11 +23,9 @@ use Rattle.model.specs.Replay.{emptyCache, misses, missesAlone, missesWith}
 use Rattle.model.specs.declared.Line.{Line}
 use Rattle.model.specs.declared.Line.the-variants.{Empty, Held}
 use Rattle.model.specs.declared.Mapping.the-variants.{Uncached, Cached}
-use Rattle.model.proofs.Histories.{readsBefore, History, history-none, history-more}
-use Rattle.model.proofs.LineStates.{lies-on}
+use Rattle.model.proofs.Histories.{readsBefore, lies-cached, lies-uncached, History, history-none, history-more}
 use Rattle.model.proofs.Loads.{loadedBy, loaded-none, loaded-all, loaded-more}
 use Rattle.model.proofs.ReadOrder.{allReads, edge, edge-end}
-use Rattle.cacheline.proofs.Below.{nowhere-placed}
 use Rattle.model.proofs.Replay.{misses-alone, misses-skip, misses-more, added-misses}
 use Rattle.replaying.specs.declared.Passed.{Passed}
 
@@ -66,27 +64,27 @@ module _ (t : Task) (ps : List ℕ) where
   module _ {i j alone preempted : ℕ} {passed : Passed} {held : List Line} {since : List ℕ} (m : ℕ) (hi : i < blockCount t) (hj : j < length (blockAt t i .reads))
       (is : getD (blockAt t i .reads) j 0 ≡ m) (before : passed .last ≤ i) (w : Replayed (edge t i + j) passed held since alone preempted) where
     -- on no line
-    pub read-skip : lineOf t m ≡ Uncached → evicted t 512 ≡ false → Replayed (suc (edge t i + j)) passed held since alone preempted
-    read-skip at behind =
+    pub read-skip : lineOf t m ≡ Uncached → Replayed (suc (edge t i + j)) passed held since alone preempted
+    read-skip at =
         record {
           long-held = w .long-held;
           long-since = w .long-since;
-          history = history-more t i j m hi hj is 512 (nowhere-placed t m at) (λ l. absurd (omega arith)) (λ d n. (refl, refl)) (w .history);
+          history = history-more t i j m hi hj is 0 false (lies-uncached t m at) refl refl (λ d n. (refl, refl)) (w .history);
           alone-is = w .alone-is ∙ sym (misses-skip t i j m hi hj is at);
-          preempted-is = omega (arith, w .preempted-is, rw behind at (loaded-more t (evicted t) i j m hi hj is (passed .last) before 512 (omega arith) (nowhere-placed t m at) behind (w .history)));
+          preempted-is = omega (arith, w .preempted-is, rw and-false at (loaded-more t (evicted t) i j m hi hj is (passed .last) before 0 false (omega arith) (lies-uncached t m at) (w .history)));
         }
 
     -- on this line; x and y are its misses
-    pub read-more : (line k x y : ℕ) → line < 512 → lineOf t m ≡ Cached line → evicted t 512 ≡ false → k ≡ suc i → x ≡ bit (not (sameBlock (getD held line Empty) (Held m)))
+    pub read-more : (line k x y : ℕ) → line < 512 → lineOf t m ≡ Cached line → k ≡ suc i → x ≡ bit (not (sameBlock (getD held line Empty) (Held m)))
         → y ≡ bit (not (sameBlock (cond (evicted t line && leb (getD since line 0) (passed .last)) Empty (getD held line Empty)) (Held m)))
         → Replayed (suc (edge t i + j)) passed (set held line (Held m)) (set since line k) (alone + x) (preempted + y)
-    read-more line k x y hl at behind ek ex ey =
+    read-more line k x y hl at ek ex ey =
         record {
           long-held = length-set held line _ ∙ w .long-held;
           long-since = length-set since line _ ∙ w .long-since;
           history =
-              history-more t i j m hi hj is line (λ d l. lies-on t m line at d)
-              (λ l. (getD-set-same held line (Held m) Empty (omega (arith, w .long-held)), getD-set-same since line k 0 (omega (arith, w .long-since)) ∙ ek))
+              history-more t i j m hi hj is line true (lies-cached t m line at) (getD-set-same held line (Held m) Empty (omega (arith, w .long-held)))
+              (getD-set-same since line k 0 (omega (arith, w .long-since)) ∙ ek)
               (λ d n. (getD-set-other held line d (Held m) Empty n, getD-set-other since line d k 0 n)) (w .history);
           alone-is = omega (arith, w .alone-is, ex, misses-more t i j m hi hj is line hl at (w .history .holds));
           preempted-is =
@@ -96,7 +94,7 @@ module _ (t : Task) (ps : List ℕ) where
                 ex,
                 ey,
                 lost-adds (evicted t line) (leb (getD since line 0) (passed .last)) (getD held line Empty) m,
-                loaded-more t (evicted t) i j m hi hj is (passed .last) before line (omega arith) (λ d l. lies-on t m line at d) behind (w .history),
+                rw and-true at (loaded-more t (evicted t) i j m hi hj is (passed .last) before line true hl (lies-cached t m line at) (w .history)),
               );
         }
 

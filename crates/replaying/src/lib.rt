@@ -65,7 +65,7 @@ fn count_misses(file: &[u8], points: &[u16]) -> Misses
 {
     let cache = cacheline::geometry_of(file);
     let blocks = taskfile::block_count(file);
-    let mut evicted = [false; 513];
+    let mut evicted = [false; 512];
     reuse::mark_evicted(&mut evicted, file, cache);
     let mut held = [Line::Empty; 512];
     let mut since = [0u8; 512];

@@ -1,6 +1,6 @@
 -- Marks of lines, and numbers beside them: one line more. Assumes nothing.
 use Prim.Native.Nat.{ℕ, _<_}
-use mathlib.Core.Path.{_≡_, refl}
+use mathlib.Core.Path.{_≡_, refl, _∙_}
 use mathlib.Core.Bool.{Bool, true, false, not, cond, _&&_, _||_, or-true, or-false, and-false}
 use mathlib.Core.List.{List}
 use mathlib.Core.Logic.{by-cases}
@@ -19,6 +19,20 @@ pub one-number : (xs : List ℕ) (line v d : ℕ) → line < length xs → getD 
 one-number xs line v d h =
     by-cases (ℕ-discrete d line) (λ e. rw (e, eq-eqb line line refl) (getD-set-same xs line v 0 h))
     (λ n. rw (ne-eqb d line n) (getD-set-other xs line d v 0 n))
+
+-- one line more, if it is to be marked
+
+pub one-marked-if : (marks : List Bool) (line d : ℕ) (on v : Bool) → line < length marks → v ≡ (getD marks line false || on)
+    → getD (set marks line v) d false ≡ (getD marks d false || eqb d line && on)
+one-marked-if marks line d on v h is =
+    by-cases (ℕ-discrete d line) (λ e. rw (e, eq-eqb line line refl) (getD-set-same marks line v false h ∙ is))
+    (λ n. rw (ne-eqb d line n, or-false) (getD-set-other marks line d v false n))
+
+pub one-number-if : (xs : List ℕ) (line n d : ℕ) (on : Bool) (v : ℕ) → line < length xs → v ≡ cond on n (getD xs line 0)
+    → getD (set xs line v) d 0 ≡ cond (eqb d line && on) n (getD xs d 0)
+one-number-if xs line n d on v h is =
+    by-cases (ℕ-discrete d line) (λ e. rw (e, eq-eqb line line refl) (getD-set-same xs line v 0 h ∙ is))
+    (λ m. rw (ne-eqb d line m) (getD-set-other xs line d v 0 m))
 
 module _ (marks : List Bool) (line d : ℕ) where
   -- the line is marked already

@@ -1,15 +1,15 @@
--- The first blocks that read the lines, as they are noted block after block, and the first read of a line's first reader, which is the line's next
--- read. Assumes nothing.
+-- The first blocks that read the lines, as they are noted block after block. A search from the edge
+-- before a line's first reader finds the line's next read. Assumes nothing.
 use Prim.Native.Nat.{ℕ, zero, suc, _+_, _-_, _≤_, _<_}
 use mathlib.Core.Path.{_≡_, refl, sym, ap, _∙_}
 use mathlib.Core.Bool.{Bool, true, false, cond, _&&_, _||_}
 use mathlib.Core.List.{List}
 use mathlib.Core.Logic.{_⊎_, ⊎-elim}
-use native.Mathlib.Nat.{add-zero, add-suc}
+use native.Mathlib.Nat.{add-zero, add-suc, le-refl}
 use native.Mathlib.Numerals.{add-one}
 use native.Mathlib.Omega.{arith}
 use lib.Dec.{eqb}
-use lib.ListN.{length, getD, drop, drop-of-length-le}
+use lib.ListN.{length, getD, drop}
 use borrow.Author.Tests.{ne-eqb}
 use Rattle.model.specs.Task.{Task, blockCount}
 use Rattle.model.specs.Lines.{onLine, firstRead, anyRead, sameBlock, readsOf, blockAt, stateAfter, nextRead, useful, accessed}
@@ -17,7 +17,7 @@ use Rattle.model.specs.declared.Line.{Line}
 use Rattle.model.specs.declared.Line.the-variants.{Empty}
 use Rattle.model.proofs.LineStates.{first-append, holds-none}
 use Rattle.model.proofs.ReadOrder.{reads-from}
-use Rattle.reuse.specs.States.{firstReader, firstReadIn, FirstReaders, FirstBy, NotedTo, Settled}
+use Rattle.reuse.specs.States.{firstReader, edgeBefore, FirstReaders, FirstBy, NotedTo, Settled}
 
 module _ (t : Task) (c : ℕ) where
   -- one block more, behind the others
@@ -42,32 +42,48 @@ module _ (t : Task) (c : ℕ) where
       go true h = omega arith
       go false h = omega arith
 
-  -- the first read of that block is the line's next one, if there is such a block or no block is left
-  reader-reads : (k n : ℕ) → k + n ≤ blockCount t → (firstReader t k n c ≡ 0 → k + n ≡ blockCount t)
-      → firstReadIn t (firstReader t k n c) c ≡ firstRead (onLine t c) (readsOf (drop k (t .blocks)))
-  unfolding firstReader firstReadIn firstRead readsOf accessed
-  reader-reads k zero h all = rw (drop-of-length-le (t .blocks) {i = k} (omega (arith, all refl))) refl
-  reader-reads k (suc n) h all =
-      go (accessed t (suc k) c) (firstReader t (suc k) n c) (λ e. reader-reads (suc k) n (omega arith) (λ z. omega (arith, all (rw e z)))) ∙
-      sym (ap (firstRead (onLine t c)) (reads-from t k (omega arith)) ∙ first-append (onLine t c) (blockAt t k .reads) (readsOf (drop (suc k) (t .blocks))))
+  -- a block that does not read the line is passed by its next read
+  passes : (k : ℕ) → k < blockCount t → accessed t (suc k) c ≡ false → nextRead t (suc k) c ≡ nextRead t k c
+  unfolding nextRead accessed
+  passes k h off =
+      sym (ap (firstRead (onLine t c)) (reads-from t k h) ∙ first-append (onLine t c) (blockAt t k .reads) (readsOf (drop (suc k) (t .blocks))) ∙ rw off refl)
+
+  -- a search from the edge before that block finds what a search from edge k finds, if there is such a block or no block is left
+  reader-next : (k n : ℕ) → k + n ≤ blockCount t → (firstReader t k n c ≡ 0 → k + n ≡ blockCount t)
+      → nextRead t (edgeBefore (blockCount t) (firstReader t k n c)) c ≡ nextRead t k c
+  unfolding firstReader edgeBefore
+  reader-next k zero h all = let end : blockCount t ≡ k = omega (arith, all refl) in rw end refl
+  reader-next k (suc n) h all =
+      go (accessed t (suc k) c) (firstReader t (suc k) n c) (λ e. reader-next (suc k) n (omega arith) (λ z. omega (arith, all (rw e z))) ∙ passes k (omega arith) e)
     where
-      go : (b : Bool) (x : ℕ) {l : Line} → (b ≡ false → firstReadIn t x c ≡ l) → firstReadIn t (cond b (suc k) x) c ≡ cond b (firstRead (onLine t c) (blockAt t k .reads)) l
+      go : (b : Bool) (x : ℕ) → (b ≡ false → nextRead t (edgeBefore (blockCount t) x) c ≡ nextRead t k c)
+          → nextRead t (edgeBefore (blockCount t) (cond b (suc k) x)) c ≡ nextRead t k c
       go true x f = refl
       go false x f = f refl
 
-  -- so the block that is noted decides whether a line is useful
+  -- so a search from there decides whether a line is useful
   module _ {k b : ℕ} (readers : List ℕ) (from : k ≤ b) (to : b ≤ blockCount t) (below : c < 512) (are : FirstReaders t k b readers) where
-    pub noted-within : getD readers c 0 ≤ blockCount t
+    noted-within : getD readers c 0 ≤ blockCount t
     noted-within = rw (are c below) (omega (arith, reader-within k (b - k)))
 
-    noted-next : Settled t b readers c → firstReadIn t (getD readers c 0) c ≡ nextRead t k c
-    unfolding nextRead
-    noted-next settled = rw (are c below) (reader-reads k (b - k) (omega arith) (λ z. omega (arith, settled (are c below ∙ z))))
+    pub edge-within : edgeBefore (blockCount t) (getD readers c 0) ≤ blockCount t
+    unfolding edgeBefore
+    edge-within = go (getD readers c 0) noted-within
+      where
+        go : (r : ℕ) → r ≤ blockCount t → edgeBefore (blockCount t) r ≤ blockCount t
+        go zero h = le-refl (blockCount t)
+        go (suc i) h = omega arith
 
-    pub noted-useful : (line : Line) → line ≡ stateAfter t k c → (line ≡ Empty) ⊎ Settled t b readers c → sameBlock line (firstReadIn t (getD readers c 0) c) ≡ useful t k c
+    noted-next : Settled t b readers c → nextRead t (edgeBefore (blockCount t) (getD readers c 0)) c ≡ nextRead t k c
+    noted-next settled = rw (are c below) (reader-next k (b - k) (omega arith) (λ z. omega (arith, settled (are c below ∙ z))))
+
+    pub noted-useful : (line : Line) → line ≡ stateAfter t k c → (line ≡ Empty) ⊎ Settled t b readers c
+        → sameBlock line (nextRead t (edgeBefore (blockCount t) (getD readers c 0)) c) ≡ useful t k c
     unfolding useful
     noted-useful line is known =
-        rw (← is) (⊎-elim (λ e. rw e (holds-none (firstReadIn t (getD readers c 0) c) ∙ sym (holds-none (nextRead t k c)))) (λ settled. ap (sameBlock line) (noted-next settled)) known)
+        rw (← is)
+        (⊎-elim (λ e. rw e (holds-none (nextRead t (edgeBefore (blockCount t) (getD readers c 0)) c) ∙ sym (holds-none (nextRead t k c))))
+        (λ settled. ap (sameBlock line) (noted-next settled)) known)
 
 -- the readers of one block more
 pub noted-more : (t : Task) (i : ℕ) {b : ℕ} {before after after′ : List ℕ} → NotedTo t b i before after → i < blockCount t → length after′ ≡ 512

@@ -1,4 +1,4 @@
--- What arrays of 512 entries, or of one more behind them, say of a cache's lines. Assumes nothing.
+-- What arrays of 512 entries say of a cache's lines. Assumes nothing.
 use Prim.Native.Nat.{ℕ, zero, suc, _-_, _≤_, _<_}
 use mathlib.Core.Path.{_≡_}
 use mathlib.Core.Bool.{Bool, false, cond, _&&_, _||_}
@@ -7,7 +7,7 @@ use lib.Dec.{eqb}
 use lib.ListN.{length, getD}
 use Rattle.model.specs.Sets.{Lines}
 use Rattle.model.specs.Task.{Task, blockCount}
-use Rattle.model.specs.Lines.{onLine, firstRead, blockAt, stateAfter, accessed}
+use Rattle.model.specs.Lines.{stateAfter, accessed}
 use Rattle.model.specs.Charges.{firstTouching}
 use Rattle.model.specs.declared.Line.{Line}
 use Rattle.model.specs.declared.Line.the-variants.{Empty}
@@ -33,17 +33,17 @@ markOf (At i) = i
 
 -- the first preempter that touches each line
 abbrev pub FirstMarks : Task → List ℕ → Type 0
-FirstMarks t marks = (length marks ≡ 513) × ((c : ℕ) → c < 513 → getD marks c 0 ≡ markOf (firstTouching t c))
+FirstMarks t marks = (length marks ≡ 512) × ((c : ℕ) → c < 512 → getD marks c 0 ≡ markOf (firstTouching t c))
 
 -- the first of the n blocks after block k that reads line c, or 0 if none does
 unfoldable pub firstReader : Task → ℕ → ℕ → ℕ → ℕ
 firstReader t k zero c = 0
 firstReader t k (suc n) c = cond (accessed t (suc k) c) (suc k) (firstReader t (suc k) n c)
 
--- what block b reads first on line c; there is no block 0
-unfoldable pub firstReadIn : Task → ℕ → ℕ → Line
-firstReadIn t zero c = Empty
-firstReadIn t (suc i) c = firstRead (onLine t c) (blockAt t i .reads)
+-- the edge before block b of n blocks, or the last edge where there is no such block
+unfoldable pub edgeBefore : ℕ → ℕ → ℕ
+edgeBefore n zero = n
+edgeBefore n (suc i) = i
 
 -- the first block after block k, up to block b, that reads each line
 abbrev pub FirstReaders : Task → ℕ → ℕ → List ℕ → Type 0

@@ -15,7 +15,7 @@ ghost use Rattle.lineset.specs.Members.{members};
 ghost use Rattle.taskfile.specs.File.{IsAccepted, counts, taskOf, entryReads};
 ghost use Rattle.cacheline.specs.Geometries.{GeometryOf, WithinCache};
 ghost use Rattle.reuse.specs.Counts.{NewLines, Rereads, rowSum, SummedRow, SummedRows, OthersStay};
-ghost use Rattle.reuse.specs.States.{HeldAfter, MarkedToo, MarkedBy, FirstMarks, firstReadIn, FirstBy, NotedTo, Settled};
+ghost use Rattle.reuse.specs.States.{HeldAfter, MarkedToo, MarkedBy, FirstMarks, edgeBefore, FirstBy, NotedTo, Settled};
 ghost use Rattle.reuse.specs.FirstReads.{firstIn, Noted};
 use cacheline::Geometry;
 use lineset::LineSet;
@@ -68,7 +68,8 @@ fn search_from(file: &[u8], cache: Geometry, k: usize, c: usize) -> Search
     }
 }
 
-// The first read of line c in block k of the file.
+// The first read of line c in block k of the file. Two reads are looked at in each turn: that halves
+// the turns.
 fn search_block(file: &[u8], cache: Geometry, k: usize, c: usize) -> Search
     requires { ⌜ IsAccepted (now file) × (1 ≤ k) × (k ≤ counts (now file) .blocks + counts (now file) .preempters) ⌝ }
     requires { ⌜ GeometryOf (taskOf (now file)) cache ⌝ }
@@ -77,7 +78,7 @@ fn search_block(file: &[u8], cache: Geometry, k: usize, c: usize) -> Search
 {
     let reads = taskfile::read_count(file, k);
     let mut left = reads;
-    while 0 < left {
+    while 1 < left {
         let at = reads - left;
         let number = taskfile::read(file, k, at);
         if cache.lies_on(number, c) {
@@ -87,7 +88,24 @@ fn search_block(file: &[u8], cache: Geometry, k: usize, c: usize) -> Search
                 looked,
             };
         }
-        left -= 1;
+        let second = taskfile::read(file, k, at + 1);
+        if cache.lies_on(second, c) {
+            let looked = at + 2;
+            return Search {
+                next: Next::Read(second),
+                looked,
+            };
+        }
+        left -= 2;
+    }
+    if 0 < left {
+        let last = taskfile::read(file, k, reads - 1);
+        if cache.lies_on(last, c) {
+            return Search {
+                next: Next::Read(last),
+                looked: reads,
+            };
+        }
     }
     Search {
         next: Next::Never,
@@ -95,14 +113,16 @@ fn search_block(file: &[u8], cache: Geometry, k: usize, c: usize) -> Search
     }
 }
 
-// U(k): what each line holds after block k, and for each line that holds something one search, of the first block behind k that reads it, its
-// first reader. These are noted on the way, as far as a line needs it.
+// U(k): what each line holds after block k, and one search for each line that holds something. The
+// search starts at the edge before the first block after k that reads the line, its first reader.
+// First readers are noted on the way, only as far as a line needs it.
 pub fn useful_lines(file: &[u8], k: usize) -> LineSet
     requires { ⌜ IsAccepted (now file) × (k ≤ blockCount (taskOf (now file))) ⌝ }
     ensures { λ r. ⌜ ((c : ℕ) → members r c ≡ Lines.useful (taskOf (now (file .entry))) k c) ⌝ }
 {
     let cache = cacheline::geometry_of(file);
     let count = cache.line_count as usize;
+    let blocks = taskfile::block_count(file);
     let held = held_after(file, cache, k);
     let mut readers = [0u8; 512];
     let mut lines = LineSet::empty();
@@ -114,7 +134,7 @@ pub fn useful_lines(file: &[u8], k: usize) -> LineSet
         lines = with_marked(
             lines,
             c,
-            is_reread(file, cache, readers[c] as usize, c, line),
+            is_reread(file, cache, edge_before(readers[c], blocks), c, line),
         );
         c += 1;
     }
@@ -332,26 +352,34 @@ fn held_after(file: &[u8], cache: Geometry, k: usize) -> [Line; 512]
     held
 }
 
-// Whether line c, which holds this, is read first in block b for the same memory block; there is no block 0.
-fn is_reread(file: &[u8], cache: Geometry, b: usize, c: usize, line: Line) -> bool
-    requires { ⌜ IsAccepted (now file) × (b ≤ blockCount (taskOf (now file))) × GeometryOf (taskOf (now file)) cache ⌝ }
-    ensures { λ r. ⌜ r ≡ sameBlock line (firstReadIn (taskOf (now (file .entry))) b c) ⌝ }
+// The edge before a line's first reader, or the last edge if no block reads the line.
+fn edge_before(reader: u8, blocks: usize) -> usize
+    ensures { λ r. ⌜ r ≡ edgeBefore blocks reader ⌝ }
 {
-    match line {
-        Line::Empty => false,
-        Line::Held(number) => is_next(file, cache, b, c, number),
+    if reader == 0 {
+        blocks
+    } else {
+        reader as usize - 1
     }
 }
 
-// Whether the first read of line c in block b is of this memory block.
-fn is_next(file: &[u8], cache: Geometry, b: usize, c: usize, number: u32) -> bool
-    requires { ⌜ IsAccepted (now file) × (b ≤ blockCount (taskOf (now file))) × GeometryOf (taskOf (now file)) cache ⌝ }
-    ensures { λ r. ⌜ r ≡ sameBlock (Line.Held number) (firstReadIn (taskOf (now (file .entry))) b c) ⌝ }
+// Whether the next read of line c after edge k is of the memory block that the line holds.
+fn is_reread(file: &[u8], cache: Geometry, k: usize, c: usize, line: Line) -> bool
+    requires { ⌜ IsAccepted (now file) × (k ≤ blockCount (taskOf (now file))) × GeometryOf (taskOf (now file)) cache ⌝ }
+    ensures { λ r. ⌜ r ≡ sameBlock line (nextRead (taskOf (now (file .entry))) k c) ⌝ }
 {
-    if b == 0 {
-        return false;
+    match line {
+        Line::Empty => false,
+        Line::Held(number) => is_next(file, cache, k, c, number),
     }
-    let found = search_block(file, cache, b, c);
+}
+
+// Whether the next read of line c after edge k is of this memory block.
+fn is_next(file: &[u8], cache: Geometry, k: usize, c: usize, number: u32) -> bool
+    requires { ⌜ IsAccepted (now file) × (k ≤ blockCount (taskOf (now file))) × GeometryOf (taskOf (now file)) cache ⌝ }
+    ensures { λ r. ⌜ r ≡ sameBlock (Line.Held number) (nextRead (taskOf (now (file .entry))) k c) ⌝ }
+{
+    let found = search_from(file, cache, k, c);
     let next = found.next;
     match next {
         Next::Never => false,
@@ -365,15 +393,15 @@ pub fn evicted_lines(file: &[u8]) -> LineSet
     ensures { λ r. ⌜ ((c : ℕ) → members r c ≡ evicted (taskOf (now (file .entry))) c) ⌝ }
 {
     let cache = cacheline::geometry_of(file);
-    let mut marks = [false; 513];
+    let mut marks = [false; 512];
     mark_evicted(&mut marks, file, cache);
     marked_lines(&marks, cache.line_count as usize)
 }
 
-// Marks the lines of H; the array is lent with no mark. Numbers on no line mark the place behind the lines, which is cleared at the end.
-pub fn mark_evicted(marks: &mut [bool; 513], file: &[u8], cache: Geometry)
-    requires { ⌜ (now marks ≡ replicate 513 false) × IsAccepted (now file) × GeometryOf (taskOf (now file)) cache ⌝ }
-    ensures { λ _. ⌜ length (now (marks .exit)) ≡ 513 ⌝ }
+// Marks the lines of H; the array is lent with no mark.
+pub fn mark_evicted(marks: &mut [bool; 512], file: &[u8], cache: Geometry)
+    requires { ⌜ (now marks ≡ replicate 512 false) × IsAccepted (now file) × GeometryOf (taskOf (now file)) cache ⌝ }
+    ensures { λ _. ⌜ length (now (marks .exit)) ≡ 512 ⌝ }
     ensures { λ _. ⌜ ((d : ℕ) → getD (now (marks .exit)) d false ≡ evicted (taskOf (now (file .entry))) d) ⌝ }
 {
     let first = taskfile::block_count(file) + 1;
@@ -383,30 +411,35 @@ pub fn mark_evicted(marks: &mut [bool; 513], file: &[u8], cache: Geometry)
         mark_reads(marks, file, cache, k);
         k += 1;
     }
-    marks[512] = false;
 }
 
-// Marks the lines that block k of the file reads, and perhaps the place behind them.
-fn mark_reads(marks: &mut [bool; 513], file: &[u8], cache: Geometry, k: usize)
-    requires { ⌜ length (now marks) ≡ 513 ⌝ }
+// Marks the lines that block k of the file reads.
+fn mark_reads(marks: &mut [bool; 512], file: &[u8], cache: Geometry, k: usize)
+    requires { ⌜ length (now marks) ≡ 512 ⌝ }
     requires { ⌜ IsAccepted (now file) × (1 ≤ k) × (k ≤ counts (now file) .blocks + counts (now file) .preempters) ⌝ }
     requires { ⌜ GeometryOf (taskOf (now file)) cache ⌝ }
-    ensures { λ _. ⌜ length (now (marks .exit)) ≡ 513 ⌝ }
+    ensures { λ _. ⌜ length (now (marks .exit)) ≡ 512 ⌝ }
     ensures { λ _. ⌜ MarkedToo (λ d. anyRead (onLine (taskOf (now (file .entry))) d) (entryReads (now (file .entry)) k)) (now (marks .entry)) (now (marks .exit)) ⌝ }
 {
+    let whole = cache.caches_all();
     let reads = taskfile::read_count(file, k);
     let mut j = 0;
     while j < reads {
-        let place = cache.place_of(taskfile::read(file, k, j));
-        marks[place] = true;
+        let slot = cache.slot_of(taskfile::read(file, k, j));
+        let c = slot.line;
+        if whole {
+            marks[c] = true;
+        } else {
+            marks[c] = marks[c] | slot.cached;
+        }
         j += 1;
     }
 }
 
 // Marks each line with the first preempter that touches it, from 0; the array is lent with 32 everywhere, which stays where there is none. The
-// preempters come last to first, so that each overwrites those behind it. The place behind the lines has none at the end.
-pub fn mark_first(marks: &mut [u8; 513], file: &[u8], cache: Geometry)
-    requires { ⌜ (now marks ≡ replicate 513 32) × IsAccepted (now file) × GeometryOf (taskOf (now file)) cache ⌝ }
+// preempters come last to first, so that each overwrites those after it.
+pub fn mark_first(marks: &mut [u8; 512], file: &[u8], cache: Geometry)
+    requires { ⌜ (now marks ≡ replicate 512 32) × IsAccepted (now file) × GeometryOf (taskOf (now file)) cache ⌝ }
     ensures { λ _. ⌜ FirstMarks (taskOf (now (file .entry))) (now (marks .exit)) ⌝ }
 {
     let start = taskfile::block_count(file) + 1;
@@ -415,29 +448,29 @@ pub fn mark_first(marks: &mut [u8; 513], file: &[u8], cache: Geometry)
         i -= 1;
         mark_reads_by(marks, file, cache, start + i, i as u8);
     }
-    marks[512] = 32;
 }
 
-// Marks the lines that block k of the file reads with this number, and perhaps the place behind them.
-fn mark_reads_by(marks: &mut [u8; 513], file: &[u8], cache: Geometry, k: usize, by: u8)
-    requires { ⌜ length (now marks) ≡ 513 ⌝ }
+// Marks the lines that block k of the file reads with this number.
+fn mark_reads_by(marks: &mut [u8; 512], file: &[u8], cache: Geometry, k: usize, by: u8)
+    requires { ⌜ length (now marks) ≡ 512 ⌝ }
     requires { ⌜ IsAccepted (now file) × (1 ≤ k) × (k ≤ counts (now file) .blocks + counts (now file) .preempters) ⌝ }
     requires { ⌜ GeometryOf (taskOf (now file)) cache ⌝ }
-    ensures { λ _. ⌜ length (now (marks .exit)) ≡ 513 ⌝ }
+    ensures { λ _. ⌜ length (now (marks .exit)) ≡ 512 ⌝ }
     ensures { λ _. ⌜ MarkedBy (λ d. anyRead (onLine (taskOf (now (file .entry))) d) (entryReads (now (file .entry)) k)) by (now (marks .entry)) (now (marks .exit)) ⌝ }
 {
     let reads = taskfile::read_count(file, k);
     let mut j = 0;
     while j < reads {
-        let place = cache.place_of(taskfile::read(file, k, j));
-        marks[place] = by;
+        let slot = cache.slot_of(taskfile::read(file, k, j));
+        let c = slot.line;
+        marks[c] = if_cached(slot.cached, by, marks[c]);
         j += 1;
     }
 }
 
 // The set of the lines below count that are marked.
-fn marked_lines(marks: &[bool; 513], count: usize) -> LineSet
-    requires { ⌜ (length (now marks) ≡ 513) × (count ≤ 512) ⌝ }
+fn marked_lines(marks: &[bool; 512], count: usize) -> LineSet
+    requires { ⌜ (length (now marks) ≡ 512) × (count ≤ 512) ⌝ }
     ensures { λ r. ⌜ ((d : ℕ) → members r d ≡ (ltb d count && getD (now (marks .entry)) d false)) ⌝ }
 {
     let mut set = LineSet::empty();
@@ -463,23 +496,25 @@ pub fn count_new_lines(file: &[u8], counts: &mut [u8; 4096])
     ensures { λ _. ⌜ NewLines (now (file .entry)) (now (counts .exit)) ⌝ }
 {
     let cache = cacheline::geometry_of(file);
-    let mut evicted = [false; 513];
+    let mut evicted = [false; 512];
     mark_evicted(&mut evicted, file, cache);
     count_rereads(file, cache, &evicted, counts);
     sum_rows(counts, taskfile::block_count(file));
 }
 
-// One walk over the reads: what each line holds, and the block, from 0, that read it last. A read of the number that a line of H holds is
-// counted in the row of its own block, at the column of that block.
-fn count_rereads(file: &[u8], cache: Geometry, evicted: &[bool; 513], counts: &mut [u8; 4096])
+// One walk over the reads: what each line holds, and the block, from 0, that read it last. A read of
+// the number that a line of H holds is counted in the row of its own block, at the column of that
+// block. With a scratch range each value is chosen; without one it is stored as it is.
+fn count_rereads(file: &[u8], cache: Geometry, evicted: &[bool; 512], counts: &mut [u8; 4096])
     requires { ⌜ IsAccepted (now file) × GeometryOf (taskOf (now file)) cache ⌝ }
-    requires { ⌜ (length (now evicted) ≡ 513) × ((d : ℕ) → getD (now evicted) d false ≡ Lines.evicted (taskOf (now file)) d) ⌝ }
+    requires { ⌜ (length (now evicted) ≡ 512) × ((d : ℕ) → getD (now evicted) d false ≡ Lines.evicted (taskOf (now file)) d) ⌝ }
     requires { ⌜ now counts ≡ replicate 4096 0 ⌝ }
     ensures { λ _. ⌜ Rereads (now (file .entry)) (now (counts .exit)) ⌝ }
 {
     let blocks = taskfile::block_count(file);
-    let mut held = [Line::Empty; 513];
-    let mut since = [0u8; 513];
+    let whole = cache.caches_all();
+    let mut held = [Line::Empty; 512];
+    let mut since = [0u8; 512];
     let mut i = 0;
     while i < blocks {
         let b = i + 1;
@@ -487,12 +522,18 @@ fn count_rereads(file: &[u8], cache: Geometry, evicted: &[bool; 513], counts: &m
         let mut j = 0;
         while j < reads {
             let number = taskfile::read(file, b, j);
-            let place = cache.place_of(number);
-            let line = held[place];
-            let at = 64 * i + since[place] as usize;
-            counts[at] += reread(line, number, evicted[place]);
-            held[place] = Line::Held(number);
-            since[place] = i as u8;
+            let slot = cache.slot_of(number);
+            let c = slot.line;
+            let line = held[c];
+            let last = since[c];
+            let at = 64 * i + last as usize;
+            counts[at] += reread(line, number, evicted[c] & slot.cached);
+            since[c] = if_cached(slot.cached, i as u8, last);
+            if whole {
+                held[c] = Line::Held(number);
+            } else {
+                held[c] = line_after(line, number, slot.cached);
+            }
             j += 1;
         }
         i += 1;
@@ -535,6 +576,20 @@ fn sum_row(counts: &mut [u8; 4096], i: usize)
         sum += here;
         a += 1;
     }
+}
+
+// What a line holds after a read of a number whose slot is there: the number, if it is cached.
+pub fn line_after(line: Line, number: u32, cached: bool) -> Line
+    ensures { λ r. ⌜ r ≡ cond cached (Line.Held number) line ⌝ }
+{
+    if cached { Line::Held(number) } else { line }
+}
+
+// The new entry of a line after such a read, if the number is cached, and otherwise the old one.
+pub fn if_cached(cached: bool, new: u8, old: u8) -> u8
+    ensures { λ r. ⌜ r ≡ cond cached new old ⌝ }
+{
+    if cached { new } else { old }
 }
 
 // Whether a line holds this memory block.

@@ -37,7 +37,7 @@ count-lines-requires : tie.Need-count-lines-requires
 count-lines-requires c κs = (c .before .before .before .before .before .before .before .pre, wrong (c .before .before .before) ∙ c .before .enum-told .given .1, refl)
 
 price-regions-requires : tie.Need-price-regions-requires
-price-regions-requires c κs = (c .before .before .before .before .before .before .before .before .before .pre, wrong (c .before .before .before .before .before) ∙ c .before .before .before .enum-told .given .1, c .before .count-lines .ensures)
+price-regions-requires c κs = (c .before .before .before .before .before .before .before .before .before .pre, wrong (c .before .before .before .before .before) ∙ c .before .before .before .enum-told .given .1, c .before .count-lines .ensures .0)
 
 returns : tie.Need-returns
 returns c =

@@ -15,7 +15,7 @@ use Rattle.model.proofs.Lists.{none-lowest}
 use Rattle.model.proofs.ReadOrder.{edge, edge-suc}
 use Rattle.taskfile.specs.File.{taskOf}
 use Rattle.taskfile.proofs.Accepted as accepted-file
-use Rattle.cacheline.proofs.Below.{line-below, evicted-behind}
+use Rattle.cacheline.proofs.Below.{line-below}
 use Rattle.replaying.proofs.Steps.{Replayed, PointsLeft, at-start, read-skip, read-more, pass-edge, at-end}
 use Rattle.replaying.proofs.count_misses.Statement.{statement}
 use Rattle.replaying.proofs.count_misses.Tie as tie
@@ -153,7 +153,6 @@ loop2-again c =
     let counted : inner .j < length (blockAt t (outer .i) .reads) = rw reads-are (omega (arith, taken, turn .before .before .read-count .ensures .0)) in
     let number-is : getD (blockAt t (outer .i) .reads) (inner .j) 0 ≡ number .result = rw reads-are (sym (number .ensures)) in
     let is = sym (line .ensures .0 t (cache .ensures)) in
-    let behind = evicted-behind t (cache .ensures) in
     let next : edge t (outer .i) + (inner .j + 1) ≡ suc (edge t (outer .i) + inner .j) = omega arith in
     ⊎-elim
     (λ w.
@@ -161,7 +160,7 @@ loop2-again c =
       omega (arith, taken),
       omega (arith, inner .inv .1),
       omega (arith, inner .inv .2),
-      read-skip t ps (number .result) inside counted number-is (outer .inv .3) (inner .inv .3) (is ∙ w .1 .given .1) behind,
+      read-skip t ps (number .result) inside counted number-is (outer .inv .3) (inner .inv .3) (is ∙ w .1 .given .1),
     ))
     (λ w.
     let on = w .1 .given .0 .0 in
@@ -170,7 +169,7 @@ loop2-again c =
       omega (arith, inner .inv .1, w .5 .ensures .1),
       omega (arith, inner .inv .2, w .6 .ensures .1),
       read-more t ps (number .result) inside counted number-is (outer .inv .3) (inner .inv .3) on (outer .i + 1) _ _ (line-below (line .result) on (w .1 .given .1) (line .ensures .1))
-          (is ∙ w .1 .given .1) behind (add-one (outer .i)) (w .5 .ensures .0) (w .6 .ensures .0 ∙ rw (w .4 .ensures, marks on) refl),
+          (is ∙ w .1 .given .1) (add-one (outer .i)) (w .5 .ensures .0) (w .6 .ensures .0 ∙ rw (w .4 .ensures, marks on) refl),
     ))
     (c .match .came)
 

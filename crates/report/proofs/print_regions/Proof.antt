@@ -68,7 +68,7 @@ weigh-between-requires c κs =
       start .pre .0,
       omega (arith, at .1),
       at .2,
-      c .before .before .before .count-lines .ensures .loads (l .i) (omega (arith, c .before .loop-test .taken)) ∙ rw (l .inv .1, end c) refl,
+      c .before .before .before .count-lines .ensures .0 .loads (l .i) (omega (arith, c .before .loop-test .taken)) ∙ rw (l .inv .1, end c) refl,
     )
 
 print-region-requires : tie.Need-print-region-requires Inv-loop μ-loop

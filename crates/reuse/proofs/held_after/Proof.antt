@@ -2,6 +2,7 @@
 -- Assumes nothing.
 use Prim.Native.Nat.{suc, _+_, _-_, _≤_, _<_}
 use mathlib.Core.Path.{_≡_, refl, sym, _∙_}
+use mathlib.Core.Bool.{true, false}
 use mathlib.Core.Logic.{⊎-elim}
 use native.Mathlib.Nat.{add-zero}
 use native.Mathlib.Omega.{arith}
@@ -12,12 +13,12 @@ use borrow.Author.Needs.{needs}
 use Rattle.model.specs.Task.{blockCount}
 use Rattle.model.specs.Lines.{blockAt, readsOf, stateAfter}
 use Rattle.model.specs.declared.Line.the-variants.{Empty}
-use Rattle.model.proofs.Histories.{Holds, holds-none, holds-more}
+use Rattle.model.proofs.Histories.{Holds, lies-cached, lies-uncached, holds-none, holds-more}
 use Rattle.model.proofs.LineStates.{lies-on}
 use Rattle.model.proofs.ReadOrder.{edge, edge-suc, take-edge}
 use Rattle.taskfile.specs.File.{taskOf}
 use Rattle.taskfile.proofs.Accepted as accepted-file
-use Rattle.cacheline.proofs.Below.{line-below, nowhere-placed}
+use Rattle.cacheline.proofs.Below.{line-below}
 use Rattle.reuse.proofs.held_after.Statement.{statement}
 use Rattle.reuse.proofs.held_after.Tie as tie
 
@@ -98,8 +99,8 @@ loop2-again c =
     rw (w .2, next) (
       omega arith,
       inner .inv .1,
-      holds-more t (outer .i) (inner .j) (number .result) inside counted number-is 512 (nowhere-placed t (number .result) (is ∙ w .1 .given .1))
-          (λ l. absurd (omega arith)) (λ d n. refl) (inner .inv .2),
+      holds-more t (outer .i) (inner .j) (number .result) inside counted number-is 0 false (lies-uncached t (number .result) (is ∙ w .1 .given .1))
+          refl (λ d n. refl) (inner .inv .2),
     ))
     (λ w.
     let on = w .1 .given .0 .0 in
@@ -107,8 +108,8 @@ loop2-again c =
     rw (w .3, next) (
       omega arith,
       length-set (inner .held) on _ ∙ inner .inv .1,
-      holds-more t (outer .i) (inner .j) (number .result) inside counted number-is on (λ d l. lies-on t (number .result) on (is ∙ w .1 .given .1) d)
-          (λ l. getD-set-same (inner .held) on _ Empty (omega (arith, inner .inv .1))) (λ d n. getD-set-other (inner .held) on d _ Empty n) (inner .inv .2),
+      holds-more t (outer .i) (inner .j) (number .result) inside counted number-is on true (lies-cached t (number .result) on (is ∙ w .1 .given .1))
+          (getD-set-same (inner .held) on _ Empty (omega (arith, inner .inv .1))) (λ d n. getD-set-other (inner .held) on d _ Empty n) (inner .inv .2),
     ))
     (c .match .came)
 

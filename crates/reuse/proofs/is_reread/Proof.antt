@@ -4,7 +4,7 @@ use mathlib.Core.Path.{refl, sym, _∙_}
 use borrow.Author.Needs.{needs}
 use Rattle.model.proofs.LineStates.{holds-none}
 use Rattle.taskfile.specs.File.{taskOf}
-use Rattle.reuse.specs.States.{firstReadIn}
+use Rattle.model.specs.Lines.{nextRead}
 use Rattle.reuse.proofs.is_reread.Statement.{statement}
 use Rattle.reuse.proofs.is_reread.Tie as tie
 
@@ -20,7 +20,7 @@ is-next-requires c κs = search needs
 returns : tie.Need-returns
 returns c =
     let start = c .before .before .before in
-    rw (c .enum-told .given .1) (sym (holds-none (firstReadIn (taskOf (start .args .file .now)) (start .args .b) (start .args .c))))
+    rw (c .enum-told .given .1) (sym (holds-none (nextRead (taskOf (start .args .file .now)) (start .args .k) (start .args .c))))
 
 returns-2 : tie.Need-returns-2
 returns-2 c = c .is-next .ensures ∙ rw (c .before .before .line .given .1) refl

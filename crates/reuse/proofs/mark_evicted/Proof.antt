@@ -4,10 +4,9 @@ use Prim.Native.Nat.{ℕ, _+_, _-_, _≤_, _<_}
 use mathlib.Core.Path.{_≡_, refl, sym, ap, _∙_}
 use mathlib.Core.Bool.{Bool, false, _||_}
 use mathlib.Core.Logic.{by-cases}
-use native.Mathlib.Decide.{ℕ-discrete, decLt}
+use native.Mathlib.Decide.{decLt}
 use native.Mathlib.Omega.{arith}
-use lib.ListN.{length, getD, length-set, getD-replicate, List·getD-eq-default}
-use lib.Seq.{getD-set-same, getD-set-other}
+use lib.ListN.{length, getD, getD-replicate, List·getD-eq-default}
 use Rattle.model.specs.Lines.{onLine, anyRead, evicted}
 use Rattle.model.proofs.LineStates.{any-append, evicted-beyond}
 use Rattle.taskfile.specs.File.{counts, taskOf, entryReads}
@@ -19,7 +18,7 @@ use Rattle.reuse.proofs.mark_evicted.Tie as tie
 
 abbrev Inv-loop : tie.InvT-loop
 Inv-loop marks₀ file cache first end k₀ marks k =
-    (length marks ≡ 513) × (first ≤ k) × (k ≤ end) ×
+    (length marks ≡ 512) × (first ≤ k) × (k ≤ end) ×
     ((c : ℕ) → c < 512 → getD marks c false ≡ anyRead (onLine (taskOf file) c) (readsBetween file first (k - first)))
 
 abbrev μ-loop : tie.MeasureT-loop
@@ -41,7 +40,7 @@ loop-holds : tie.Need-loop-holds Inv-loop μ-loop
 unfolding readsBetween anyRead
 loop-holds c =
     let none : c .before .block-count .result + 1 - (c .before .block-count .result + 1) ≡ 0 = omega arith in
-    rw (c .before .before .before .pre .0) (refl, omega arith, omega arith, λ d h. rw none (getD-replicate 513 d false false (omega arith)))
+    rw (c .before .before .before .pre .0) (refl, omega arith, omega arith, λ d h. rw none (getD-replicate 512 d false false (omega arith)))
 
 mark-reads-requires : tie.Need-mark-reads-requires Inv-loop μ-loop
 mark-reads-requires c κs =
@@ -78,9 +77,6 @@ loop-again c =
           sym (rw (more, between-more file first (l .k - first), any-append, there) refl),
     )
 
-element-write-marks : tie.Need-element-write-marks Inv-loop μ-loop
-element-write-marks c = omega (arith, c .before .loop .inv .0)
-
 returns : tie.Need-returns Inv-loop μ-loop
 unfolding evicted
 returns c =
@@ -93,14 +89,10 @@ returns c =
     let from : first ≡ 1 + counts file .blocks = omega (arith, accepted-file.block-count file) in
     let beyond : (d : ℕ) → 512 ≤ d → evicted (taskOf file) d ≡ false =
     λ d h. evicted-beyond (taskOf file) (omega (arith, of .sound .some, of .count)) d (omega (arith, of .sound .most, of .count)) in (
-      length-set (l .marks) 512 false ∙ l .inv .0,
+      l .inv .0,
       λ d.
-          by-cases (decLt d 512)
-          (λ h. getD-set-other (l .marks) 512 d false false (λ (e : d ≡ 512). omega arith) ∙ l .inv .3 d h ∙ rw (all, from, ← preempter-reads file) refl)
-          (λ h.
-          by-cases (ℕ-discrete d 512)
-          (λ e. rw e (getD-set-same (l .marks) 512 false false (omega (arith, l .inv .0)) ∙ sym (beyond 512 (omega arith))))
-          (λ n. getD-set-other (l .marks) 512 d false false n ∙ List·getD-eq-default (l .marks) false {n = d} (omega (arith, l .inv .0)) ∙ sym (beyond d (omega arith)))),
+          by-cases (decLt d 512) (λ h. l .inv .3 d h ∙ rw (all, from, ← preempter-reads file) refl)
+          (λ h. List·getD-eq-default (l .marks) false {n = d} (omega (arith, l .inv .0)) ∙ sym (beyond d (omega arith))),
     )
 
 pub mark-evicted-spec : {M : Type 1} → statement M
@@ -118,5 +110,4 @@ mark-evicted-spec =
     add-k
     loop-less
     loop-again
-    element-write-marks
     returns)

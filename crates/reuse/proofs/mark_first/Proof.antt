@@ -4,20 +4,13 @@ use Prim.Native.Nat.{ℕ, suc, _+_, _-_, _≤_, _<_}
 use mathlib.Core.Path.{_≡_, refl, sym, ap, ap₂, _∙_}
 use mathlib.Core.Bool.{Bool, true, false, not, cond}
 use mathlib.Core.List.{List}
-use mathlib.Core.Logic.{inl, inr, by-cases}
-use native.Mathlib.Decide.{ℕ-discrete}
 use native.Mathlib.Omega.{arith}
-use lib.ListN.{length, getD, length-set, getD-replicate}
-use lib.Seq.{getD-set-same, getD-set-other}
-use Rattle.model.specs.Sets.{bit}
-use Rattle.model.specs.Task.{Task, preempterCount}
-use Rattle.model.specs.Lines.{onLine, anyRead, evicted}
+use lib.ListN.{length, getD, getD-replicate}
+use Rattle.model.specs.Lines.{onLine, anyRead}
 use Rattle.model.specs.Lists.{lowestFrom}
 use Rattle.model.specs.Charges.{touches, firstTouching}
-use Rattle.model.proofs.Charges.{FirstOf, first-of}
 use Rattle.taskfile.specs.File.{counts, taskOf, entryReads}
 use Rattle.taskfile.proofs.Accepted as accepted-file
-use Rattle.cacheline.proofs.Below.{evicted-behind}
 use borrow.Author.Needs.{needs}
 use Rattle.reuse.specs.States.{markOf}
 use Rattle.reuse.proofs.mark_first.Statement.{statement}
@@ -31,7 +24,7 @@ one-before f k i n m false next more e = rw (next, more, e)
 
 abbrev Inv-loop : tie.InvT-loop
 Inv-loop marks₀ file cache start i₀ marks i =
-    (i ≤ counts file .preempters) × (length marks ≡ 513) ×
+    (i ≤ counts file .preempters) × (length marks ≡ 512) ×
     ((d : ℕ) → d < 512 → getD marks d 0 ≡ markOf (lowestFrom (λ k. not (touches (taskOf file) k d)) i (counts file .preempters - i)))
 
 abbrev μ-loop : tie.MeasureT-loop
@@ -53,7 +46,7 @@ loop-holds c =
     let file = start .args .file .now in
     let all : c .preempter-count .result ≡ counts file .preempters = omega (arith, accepted-file.preempter-count file) in
     let none : counts file .preempters - counts file .preempters ≡ 0 = omega arith in
-    rw (start .pre .0, all) (omega arith, refl, λ d h. rw none (getD-replicate 513 d 32 0 (omega arith)))
+    rw (start .pre .0, all) (omega arith, refl, λ d h. rw none (getD-replicate 512 d 32 0 (omega arith)))
 
 sub-i : tie.Need-sub-i Inv-loop μ-loop
 sub-i c = omega arith
@@ -100,17 +93,6 @@ loop-again c =
           (omega (arith, l .inv .0)) (ap not reads),
     )
 
-element-write-marks : tie.Need-element-write-marks Inv-loop μ-loop
-element-write-marks c = omega (arith, c .before .loop .inv .1)
-
--- no preempter touches a line that is not of H
-none-touches : (t : Task) (d : ℕ) → evicted t d ≡ false → markOf (firstTouching t d) ≡ 32
-none-touches t d out = go (first-of t d)
-  where
-    go : FirstOf (preempterCount t) (evicted t d) (firstTouching t d) → markOf (firstTouching t d) ≡ 32
-    go (inl none) = rw (none .1) refl
-    go (inr some) = let z : _≡_ {A = ℕ} 0 1 = ap bit (sym out ∙ some .0) in absurd (omega arith)
-
 returns : tie.Need-returns Inv-loop μ-loop
 unfolding firstTouching
 returns c =
@@ -119,11 +101,8 @@ returns c =
     let l = c .before .loop in
     let first : l .i ≡ 0 = omega arith in
     let all : counts file .preempters - 0 ≡ counts file .preempters = omega arith in (
-      length-set (l .marks) 512 32 ∙ l .inv .1,
-      λ d h.
-          by-cases (ℕ-discrete d 512)
-          (λ e. rw e (getD-set-same (l .marks) 512 32 0 (omega (arith, l .inv .1)) ∙ sym (none-touches (taskOf file) 512 (evicted-behind (taskOf file) (start .pre .2)))))
-          (λ n. getD-set-other (l .marks) 512 d 32 0 n ∙ l .inv .2 d (omega arith) ∙ rw (first, all, accepted-file.preempter-count file) refl),
+      l .inv .1,
+      λ d h. l .inv .2 d h ∙ rw (first, all, accepted-file.preempter-count file) refl,
     )
 
 pub mark-first-spec : {M : Type 1} → statement M
@@ -142,5 +121,4 @@ mark-first-spec =
     mark-reads-by-requires
     loop-less
     loop-again
-    element-write-marks
     returns)

@@ -1,9 +1,10 @@
--- `reuse::mark_reads` meets its contract. The loop's invariant: the lines of the reads passed are marked.
--- Assumes nothing.
+-- `reuse::mark_reads` meets its contract. The loop's invariant: the lines of the reads passed are
+-- marked. Without a scratch range each read is on its line. Assumes nothing.
 use Prim.Native.Nat.{ℕ, _+_, _-_, _≤_, _<_}
-use mathlib.Core.Path.{_≡_, sym, ap, _∙_}
-use mathlib.Core.Bool.{Bool, true, false, _||_, or-false, or-assoc}
+use mathlib.Core.Path.{_≡_, refl, sym, ap, _∙_}
+use mathlib.Core.Bool.{Bool, true, false, _&&_, _||_, or-true, or-false, or-assoc}
 use mathlib.Core.List.{List}
+use mathlib.Core.Logic.{⊎-elim}
 use native.Mathlib.Omega.{arith}
 use lib.Dec.{eqb}
 use lib.ListN.{length, getD, set, take, length-set}
@@ -11,49 +12,59 @@ use lib.Seq.{take-all}
 use Rattle.model.specs.Task.{Task}
 use Rattle.model.specs.Lines.{onLine, anyRead}
 use Rattle.model.proofs.LineStates.{any-take}
+use Rattle.model.proofs.Histories.{LiesOn}
 use Rattle.taskfile.specs.File.{taskOf, entryReads}
-use Rattle.cacheline.specs.Geometries.{InPlace}
+use Rattle.cacheline.proofs.Below.{all-cached}
 use borrow.Author.Needs.{needs}
 use Rattle.reuse.specs.States.{MarkedToo}
-use Rattle.reuse.proofs.Marks.{one-marked}
+use Rattle.reuse.proofs.Marks.{one-marked-if}
 use Rattle.reuse.proofs.mark_reads.Statement.{statement}
 use Rattle.reuse.proofs.mark_reads.Tie as tie
 
--- of the lines that these marks stand for, those read among the first j of the numbers, and those that were marked before
+-- the lines read among the first j of the numbers, and those that were marked before
 abbrev Marked : Task → List ℕ → List Bool → ℕ → List Bool → Type 0
-Marked t xs marks₀ j marks = (length marks ≡ 513) × MarkedToo (λ d. anyRead (onLine t d) (take j xs)) marks₀ marks
+Marked t xs marks₀ j marks = (length marks ≡ 512) × MarkedToo (λ d. anyRead (onLine t d) (take j xs)) marks₀ marks
 
-marked-more : (t : Task) (xs : List ℕ) (marks₀ marks : List Bool) (j m place : ℕ) → j < length xs → m ≡ getD xs j 0 → InPlace t m place → place < 513
-    → Marked t xs marks₀ j marks → Marked t xs marks₀ (j + 1) (set marks place true)
-marked-more t xs marks₀ marks j m place hj em at low k = (
-  length-set marks place true ∙ k .0,
+marked-more : (t : Task) (xs : List ℕ) (marks₀ marks : List Bool) (j m line : ℕ) (on v : Bool) → j < length xs → m ≡ getD xs j 0 → LiesOn t m line on → line < 512
+    → v ≡ (getD marks line false || on) → Marked t xs marks₀ j marks → Marked t xs marks₀ (j + 1) (set marks line v)
+marked-more t xs marks₀ marks j m line on v hj em at low is k = (
+  length-set marks line v ∙ k .0,
   λ d h.
-      one-marked marks place d (omega (arith, k .0)) ∙ ap (λ (x : Bool). x || eqb d place) (k .1 d h) ∙
-      or-assoc (getD marks₀ d false) (anyRead (onLine t d) (take j xs)) (eqb d place) ∙
-      ap (λ (x : Bool). getD marks₀ d false || x) (rw (← at d h, em) (sym (any-take (onLine t d) xs j hj))),
+      one-marked-if marks line d on v (omega (arith, k .0)) is ∙ ap (λ (x : Bool). x || eqb d line && on) (k .1 d h) ∙
+      or-assoc (getD marks₀ d false) (anyRead (onLine t d) (take j xs)) (eqb d line && on) ∙
+      ap (λ (x : Bool). getD marks₀ d false || x) (rw (← at d, em) (sym (any-take (onLine t d) xs j hj))),
 )
 
 abbrev Inv-loop : tie.InvT-loop
-Inv-loop marks₀ file cache k reads j₀ marks j = (j ≤ reads) × Marked (taskOf file) (entryReads file k) marks₀ j marks
+Inv-loop marks₀ file cache k whole reads j₀ marks j = (j ≤ reads) × Marked (taskOf file) (entryReads file k) marks₀ j marks
 
 abbrev μ-loop : tie.MeasureT-loop
-μ-loop marks₀ file cache k reads j₀ marks j = reads - j
+μ-loop marks₀ file cache k whole reads j₀ marks j = reads - j
+
+caches-all-requires : tie.Need-caches-all-requires Inv-loop μ-loop
+caches-all-requires c κs = search needs
 
 read-count-requires : tie.Need-read-count-requires Inv-loop μ-loop
 read-count-requires c κs = search needs
 
 loop-holds : tie.Need-loop-holds Inv-loop μ-loop
 unfolding anyRead
-loop-holds c = (omega arith, (c .before .before .pre .0, λ d h. sym (or-false _)))
+loop-holds c = (omega arith, (c .before .before .before .pre .0, λ d h. sym (or-false _)))
 
 read-requires : tie.Need-read-requires Inv-loop μ-loop
 read-requires c κs = search needs
 
-place-of-requires : tie.Need-place-of-requires Inv-loop μ-loop
-place-of-requires c κs = search needs
+slot-of-requires : tie.Need-slot-of-requires Inv-loop μ-loop
+slot-of-requires c κs = search needs
 
 element-write-marks : tie.Need-element-write-marks Inv-loop μ-loop
-element-write-marks c = omega (arith, c .place-of .ensures .1)
+element-write-marks c = omega (arith, c .before .slot-of .ensures .1)
+
+element-copy-out-marks : tie.Need-element-copy-out-marks Inv-loop μ-loop
+element-copy-out-marks c = omega (arith, c .before .slot-of .ensures .1)
+
+element-write-marks-2 : tie.Need-element-write-marks-2 Inv-loop μ-loop
+element-write-marks-2 c = omega (arith, c .before .before .before .slot-of .ensures .1)
 
 add-j : tie.Need-add-j Inv-loop μ-loop
 add-j c = omega arith
@@ -63,18 +74,27 @@ loop-less c = omega arith
 
 loop-again : tie.Need-loop-again Inv-loop μ-loop
 loop-again c =
-    let l = c .before .before .before .loop in
-    let start = c .before .before .before .before .before .before in
-    let place = c .place-of in
-    let number = c .before .read in (
+    let l = c .before .before .before .before .loop in
+    let start = c .before .before .before .before .before .before .before .before in
+    let whole = c .before .before .before .before .before .before .caches-all in
+    let t = taskOf (start .args .file .now) in
+    let slot = c .before .slot-of in
+    let of = slot .ensures .0 t (start .pre .1 .1) in
+    let number = c .before .before .read in
+    let more = marked-more t (entryReads (start .args .file .now) (start .args .k)) (start .args .marks .now) (l .marks) (l .j) (number .result) (slot .result .line)
+    (slot .result .cached) in (
       omega arith,
-      marked-more (taskOf (start .args .file .now)) (entryReads (start .args .file .now) (start .args .k)) (start .args .marks .now) (l .marks) (l .j) (number .result) (place .result) (omega arith)
-          (number .ensures) (place .ensures .0 (taskOf (start .args .file .now)) (start .pre .1 .1)) (place .ensures .1) (l .inv .1),
+      ⊎-elim
+          (λ w.
+          let on = all-cached t (number .result) (slot .result) of (sym (whole .ensures t (start .pre .1 .1)) ∙ w .0 .taken) in
+          rw (w .1) (more true (omega arith) (number .ensures) (of .lies) (slot .ensures .1) (sym (rw (on, or-true) refl)) (l .inv .1)))
+          (λ w. rw (w .3) (more _ (omega arith) (number .ensures) (of .lies) (slot .ensures .1) refl (l .inv .1)))
+          (c .if1 .came),
     )
 
 returns : tie.Need-returns Inv-loop μ-loop
 returns c =
-    let start = c .before .before .before .before in
+    let start = c .before .before .before .before .before in
     let l = c .before .loop in (
       l .inv .1 .0,
       λ d h.
@@ -89,11 +109,14 @@ mark-reads-spec =
     (tie.spec
     Inv-loop
     μ-loop
+    caches-all-requires
     read-count-requires
     loop-holds
     read-requires
-    place-of-requires
+    slot-of-requires
     element-write-marks
+    element-copy-out-marks
+    element-write-marks-2
     add-j
     loop-less
     loop-again

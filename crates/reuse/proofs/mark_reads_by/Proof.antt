@@ -2,7 +2,7 @@
 -- Assumes nothing.
 use Prim.Native.Nat.{ℕ, _+_, _-_, _≤_, _<_}
 use mathlib.Core.Path.{_≡_, refl, sym, ap, _∙_}
-use mathlib.Core.Bool.{Bool, true, false, cond, _||_}
+use mathlib.Core.Bool.{Bool, true, false, cond, _&&_, _||_}
 use mathlib.Core.List.{List}
 use native.Mathlib.Omega.{arith}
 use lib.Dec.{eqb}
@@ -11,31 +11,31 @@ use lib.Seq.{take-all}
 use Rattle.model.specs.Task.{Task}
 use Rattle.model.specs.Lines.{onLine, anyRead}
 use Rattle.model.proofs.LineStates.{any-take}
+use Rattle.model.proofs.Histories.{LiesOn}
 use Rattle.taskfile.specs.File.{taskOf, entryReads}
-use Rattle.cacheline.specs.Geometries.{InPlace}
 use borrow.Author.Needs.{needs}
 use Rattle.reuse.specs.States.{MarkedBy}
-use Rattle.reuse.proofs.Marks.{one-number}
+use Rattle.reuse.proofs.Marks.{one-number-if}
 use Rattle.reuse.proofs.mark_reads_by.Statement.{statement}
 use Rattle.reuse.proofs.mark_reads_by.Tie as tie
 
 -- the lines read among the first j of the numbers are marked with n
 abbrev Marked : Task → List ℕ → ℕ → List ℕ → ℕ → List ℕ → Type 0
-Marked t xs n marks₀ j marks = (length marks ≡ 513) × MarkedBy (λ d. anyRead (onLine t d) (take j xs)) n marks₀ marks
+Marked t xs n marks₀ j marks = (length marks ≡ 512) × MarkedBy (λ d. anyRead (onLine t d) (take j xs)) n marks₀ marks
 
 twice : (a b : Bool) (n x : ℕ) → cond b n (cond a n x) ≡ cond (a || b) n x
 twice true true n x = refl
 twice true false n x = refl
 twice false b n x = refl
 
-marked-more : (t : Task) (xs : List ℕ) (n : ℕ) (marks₀ marks : List ℕ) (j m place : ℕ) → j < length xs → m ≡ getD xs j 0 → InPlace t m place → place < 513
-    → Marked t xs n marks₀ j marks → Marked t xs n marks₀ (j + 1) (set marks place n)
-marked-more t xs n marks₀ marks j m place hj em at low k = (
-  length-set marks place n ∙ k .0,
+marked-more : (t : Task) (xs : List ℕ) (n : ℕ) (marks₀ marks : List ℕ) (j m line : ℕ) (on : Bool) (v : ℕ) → j < length xs → m ≡ getD xs j 0 → LiesOn t m line on → line < 512
+    → v ≡ cond on n (getD marks line 0) → Marked t xs n marks₀ j marks → Marked t xs n marks₀ (j + 1) (set marks line v)
+marked-more t xs n marks₀ marks j m line on v hj em at low is k = (
+  length-set marks line v ∙ k .0,
   λ d h.
-      let more : (anyRead (onLine t d) (take j xs) || eqb d place) ≡ anyRead (onLine t d) (take (j + 1) xs) = rw (← at d h, em) (sym (any-take (onLine t d) xs j hj)) in
-      one-number marks place n d (omega (arith, k .0)) ∙ ap (cond (eqb d place) n) (k .1 d h) ∙ twice (anyRead (onLine t d) (take j xs)) (eqb d place) n (getD marks₀ d 0) ∙
-      ap (λ (b : Bool). cond b n (getD marks₀ d 0)) more,
+      let more : (anyRead (onLine t d) (take j xs) || eqb d line && on) ≡ anyRead (onLine t d) (take (j + 1) xs) = rw (← at d, em) (sym (any-take (onLine t d) xs j hj)) in
+      one-number-if marks line n d on v (omega (arith, k .0)) is ∙ ap (cond (eqb d line && on) n) (k .1 d h) ∙
+      twice (anyRead (onLine t d) (take j xs)) (eqb d line && on) n (getD marks₀ d 0) ∙ ap (λ (b : Bool). cond b n (getD marks₀ d 0)) more,
 )
 
 abbrev Inv-loop : tie.InvT-loop
@@ -54,11 +54,17 @@ loop-holds c = (omega arith, (c .before .before .pre .0, λ d h. refl))
 read-requires : tie.Need-read-requires Inv-loop μ-loop
 read-requires c κs = search needs
 
-place-of-requires : tie.Need-place-of-requires Inv-loop μ-loop
-place-of-requires c κs = search needs
+slot-of-requires : tie.Need-slot-of-requires Inv-loop μ-loop
+slot-of-requires c κs = search needs
+
+element-copy-out-if-cached : tie.Need-element-copy-out-if-cached Inv-loop μ-loop
+element-copy-out-if-cached c = omega (arith, c .slot-of .ensures .1)
+
+if-cached-requires : tie.Need-if-cached-requires Inv-loop μ-loop
+if-cached-requires c κs = search needs
 
 element-write-marks : tie.Need-element-write-marks Inv-loop μ-loop
-element-write-marks c = omega (arith, c .place-of .ensures .1)
+element-write-marks c = omega (arith, c .before .before .slot-of .ensures .1)
 
 add-j : tie.Need-add-j Inv-loop μ-loop
 add-j c = omega arith
@@ -68,13 +74,14 @@ loop-less c = omega arith
 
 loop-again : tie.Need-loop-again Inv-loop μ-loop
 loop-again c =
-    let l = c .before .before .before .loop in
-    let start = c .before .before .before .before .before .before in
-    let place = c .place-of in
-    let number = c .before .read in (
+    let l = c .before .before .before .before .before .loop in
+    let start = c .before .before .before .before .before .before .before .before in
+    let slot = c .before .before .slot-of in
+    let number = c .before .before .before .read in (
       omega arith,
-      marked-more (taskOf (start .args .file .now)) (entryReads (start .args .file .now) (start .args .k)) (start .args .by) (start .args .marks .now) (l .marks) (l .j) (number .result) (place .result)
-          (omega arith) (number .ensures) (place .ensures .0 (taskOf (start .args .file .now)) (start .pre .1 .1)) (place .ensures .1) (l .inv .1),
+      marked-more (taskOf (start .args .file .now)) (entryReads (start .args .file .now) (start .args .k)) (start .args .by) (start .args .marks .now) (l .marks) (l .j) (number .result)
+          (slot .result .line) (slot .result .cached) _ (omega arith) (number .ensures) (slot .ensures .0 (taskOf (start .args .file .now)) (start .pre .1 .1) .lies) (slot .ensures .1)
+          (c .if-cached .ensures) (l .inv .1),
     )
 
 returns : tie.Need-returns Inv-loop μ-loop
@@ -97,7 +104,9 @@ mark-reads-by-spec =
     read-count-requires
     loop-holds
     read-requires
-    place-of-requires
+    slot-of-requires
+    element-copy-out-if-cached
+    if-cached-requires
     element-write-marks
     add-j
     loop-less

@@ -1,28 +1,34 @@
--- What is made of a scanned text is what its lines make. Where more records are found than there is room for, both are refused.
+-- What is made of a scanned text is what its lines make, if the room is large enough. Where more
+-- records are found than there is room for, both are refused. A room that is too small is refused first.
 -- Assumes nothing.
 use Prim.Native.Nat.{ℕ, _+_, _^_, _<_, _≤_}
 use mathlib.Core.Path.{_≡_, refl, sym, ap, _∙_}
-use mathlib.Core.Bool.{Bool, true, false, cond}
+use mathlib.Core.Bool.{Bool, true, false, cond, _&&_}
 use mathlib.Core.Logic.{by-cases}
 use mathlib.Core.List.{List, [], _∷_}
 use native.Mathlib.Nat.{zero-add}
 use native.Mathlib.Decide.{decLe}
 use native.Mathlib.Omega.{arith}
-use lib.ListN.{length, take, drop, length-take}
+use borrow.Author.Tests.{le-leb, leb-true}
+use lib.Dec.{eqb, leb}
+use lib.ListN.{length, take, drop, set, length-set, length-take}
 use lib.Seq.{take-at, sets, sets-eq, length-sets}
 use Rattle.model.specs.Task.{Task}
-use Rattle.model.specs.Answers.{andThen, outputRow}
+use Rattle.model.specs.Answers.{onAccepted, andThen, outputRow}
 use Rattle.model.specs.declared.Place.{Place}
 use Rattle.model.specs.declared.Place.the-variants.{Nowhere, At}
-use Rattle.model.specs.declared.Refusal.the-variants.{OutOfRange}
+use Rattle.model.specs.declared.Refusal.the-variants.{Output, OutOfRange}
 use Rattle.model.specs.declared.Verdict.{Verdict}
 use Rattle.model.specs.declared.Verdict.the-variants.{Accepted, Refused}
-use Rattle.tracing.specs.Din.{malformedLine, addressesOf}
+use Rattle.tracing.specs.Din.{lineFeed, malformedLine, addressesOf}
 use Rattle.tracing.specs.Traces.{tracedTask}
-use Rattle.tracing.specs.Scans.{started, after, keptAfter, scanned, kept}
+use Rattle.tracing.specs.Scans.{started, endsAt, after, keptAfter, scanned, kept}
 use Rattle.tracing.specs.Calls.{outputSize, settingsInRange, settingsRow, recordsRow, lineRow, verdictOf, answerOf, outputOf, madeAnswer, madeOutput}
+use Rattle.tracing.specs.Calls.{leastRoom, roomRow, roomAnswer, roomOutput}
 use Rattle.tracing.specs.Statements.{Pieces, ScannedWhole}
+use Rattle.tracing.specs.declared.Scan.{Scan}
 use Rattle.tracing.specs.declared.Settings.{Settings}
+use Rattle.tracing.specs.declared.Traced.{Traced}
 use Rattle.tracing.proofs.Groups.{known, group-few, many-refused}
 use Rattle.tracing.proofs.Rows.{accepted-rows}
 use Rattle.tracing.proofs.Scanning.{scanned-place, scanned-records, scanned-kept, somewhere}
@@ -62,7 +68,7 @@ line-alike : (s : Settings) (i : ℕ) (xs ys out : List ℕ) → Same s (At i) x
 unfolding verdictOf lineRow
 line-alike s i xs ys out = made-alike s (At i) xs ys out refl (λ a. absurd (somewhere (accepted-rows s (At i) ys out a .lines)))
 
-module _ (s : Settings) (text addresses out : List ℕ) (few : length text < 2 ^ 64) (room : 7936 < length addresses) where
+module _ (s : Settings) (text addresses out : List ℕ) (few : length text < 2 ^ 64) (enough : leastRoom ≤ length addresses) where
   abbrev found : List ℕ
   found = take (scanned started text .records) (kept started text addresses)
 
@@ -88,8 +94,37 @@ module _ (s : Settings) (text addresses out : List ℕ) (few : length text < 2 ^
       go Nowhere e = right-alike e
       go (At i) e = line-alike s i found (addressesOf text) out
 
+-- a room stays as long as it was
+kept-length : (s : Scan) (bs room : List ℕ) → length (kept s bs room) ≡ length room
+unfolding kept keptAfter
+kept-length s [] room = refl
+kept-length s (b ∷ bs) room = kept-length (after s b) bs (keptAfter s b room) ∙ go (eqb b lineFeed && endsAt (s .column))
+  where
+    go : (t : Bool) → length (cond t (set room (s .records) (s .address)) room) ≡ length room
+    go true = length-set room (s .records) (s .address)
+    go false = refl
+
+-- two rooms of one length answer and leave the same, if what comes after their row does
+rooms-alike : (old new out : List ℕ) (a b : Traced) (x y : List ℕ) → length new ≡ length old → (leastRoom ≤ length old → (a ≡ b) × (x ≡ y))
+    → (roomAnswer new a ≡ roomAnswer old b) × (roomOutput new x out ≡ roomOutput old y out)
+unfolding roomRow roomAnswer roomOutput
+rooms-alike old new out a b x y e h = rw e (go (leb leastRoom (length old)) refl)
+  where
+    go : (t : Bool) → leb leastRoom (length old) ≡ t → let row = cond t Accepted (Refused Output) in
+        let refused : Traced = record { verdict = row; length = 0 } in
+        (onAccepted row a refused ≡ onAccepted row b refused) × (onAccepted row x out ≡ onAccepted row y out)
+    go true w = h (leb-true _ _ w)
+    go false w = (refl, refl)
+
+-- a room that is large enough changes nothing
+pub room-enough : (room out : List ℕ) (a : Traced) (x : List ℕ) → leastRoom ≤ length room → (roomAnswer room a ≡ a) × (roomOutput room x out ≡ x)
+unfolding roomRow roomAnswer roomOutput
+room-enough room out a x h = rw (le-leb leastRoom (length room) h) (refl, refl)
+
 pub scanned-whole : ScannedWhole
-scanned-whole s text addresses out few room = rw (scanned-place text addresses few) (whole s text addresses out few room)
+scanned-whole s text room out few =
+    rooms-alike room (kept started text room) out _ _ _ _ (kept-length started text room)
+    (λ enough. rw (scanned-place text room few) (whole s text room out few enough))
 
 pub pieces : Pieces
 unfolding scanned kept

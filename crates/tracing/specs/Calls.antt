@@ -8,7 +8,7 @@ use lib.ListN.{length, take, drop}
 use Rattle.model.specs.Task.{Block, Task}
 use Rattle.model.specs.Answers.{onAccepted, refusedAt, andThen, outputRow}
 use Rattle.model.specs.declared.Place.{Place}
-use Rattle.model.specs.declared.Refusal.the-variants.{OutOfRange, WrongTraceLine, WrongTrace}
+use Rattle.model.specs.declared.Refusal.the-variants.{Output, OutOfRange, WrongTraceLine, WrongTrace}
 use Rattle.model.specs.declared.Verdict.{Verdict}
 use Rattle.model.specs.declared.Verdict.the-variants.{Accepted, Refused}
 use Rattle.taskfile.specs.File.{fileOf}
@@ -82,10 +82,26 @@ traceAnswer s text out = madeAnswer s (malformedLine text) (addressesOf text) ou
 abbrev pub traceOutput : Settings → List ℕ → List ℕ → List ℕ
 traceOutput s text out = madeOutput s (malformedLine text) (addressesOf text) out
 
--- the call on a scan, with the addresses that were kept: those of all records, or as many as there was room for
+-- the call on a scan and the room in which its addresses were kept
 
+-- the addresses that a room holds at least: one more than the largest file has, 64 · 124
+abbrev pub leastRoom : ℕ
+leastRoom = 7937
+
+-- refusal 9 of a room: it is too small
+unfoldable pub roomRow : List ℕ → Verdict
+roomRow room = cond (leb leastRoom (length room)) Accepted (Refused Output)
+
+-- what is answered and left with a room: its row comes first, then the later ones
+unfoldable pub roomAnswer : List ℕ → Traced → Traced
+roomAnswer room later = onAccepted (roomRow room) later (record { verdict = roomRow room; length = 0 })
+
+unfoldable pub roomOutput : List ℕ → List ℕ → List ℕ → List ℕ
+roomOutput room later out = onAccepted (roomRow room) later out
+
+-- the addresses are the first of the room, one for each record
 abbrev pub scanAnswer : Settings → Scan → List ℕ → List ℕ → Traced
-scanAnswer s scan kept out = madeAnswer s (scanPlace scan) (take (scan .records) kept) out
+scanAnswer s scan room out = roomAnswer room (madeAnswer s (scanPlace scan) (take (scan .records) room) out)
 
 abbrev pub scanOutput : Settings → Scan → List ℕ → List ℕ → List ℕ
-scanOutput s scan kept out = madeOutput s (scanPlace scan) (take (scan .records) kept) out
+scanOutput s scan room out = roomOutput room (madeOutput s (scanPlace scan) (take (scan .records) room) out) out

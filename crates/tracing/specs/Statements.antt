@@ -8,7 +8,7 @@ use Rattle.taskfile.specs.File.{taskOf, IsAccepted}
 use Rattle.tracing.specs.Din.{addressesOf}
 use Rattle.tracing.specs.Traces.{tracedTask}
 use Rattle.tracing.specs.Scans.{started, scanned, kept}
-use Rattle.tracing.specs.Calls.{traceVerdict, traceAnswer, traceOutput, scanAnswer, scanOutput}
+use Rattle.tracing.specs.Calls.{traceVerdict, traceAnswer, traceOutput, roomAnswer, roomOutput, scanAnswer, scanOutput}
 use Rattle.tracing.specs.declared.Scan.{Scan}
 use Rattle.tracing.specs.declared.Settings.{Settings}
 
@@ -32,10 +32,10 @@ Pieces =
     → (scanned s (first ++ second) ≡ scanned (scanned s first) second)
     × (kept s (first ++ second) addresses ≡ kept (scanned s first) second (kept s first addresses))
 
--- what is made of a scanned text is what the call makes of it, whatever stood where the addresses are kept, if there is room for more of them
--- than a file has
+-- after a text is scanned, `finish` answers 9 if the room is too small, and otherwise what `trace`
+-- answers of the text; it leaves the output likewise. This holds of every room and what it held
 abbrev pub ScannedWhole : Type 0
 ScannedWhole =
-    (s : Settings) (text addresses out : List ℕ) → length text < 2 ^ 64 → 7936 < length addresses
-    → let scan = scanned started text in let found = kept started text addresses in
-    (scanAnswer s scan found out ≡ traceAnswer s text out) × (scanOutput s scan found out ≡ traceOutput s text out)
+    (s : Settings) (text room out : List ℕ) → length text < 2 ^ 64
+    → let scan = scanned started text in let found = kept started text room in
+    (scanAnswer s scan found out ≡ roomAnswer room (traceAnswer s text out)) × (scanOutput s scan found out ≡ roomOutput room (traceOutput s text out) out)

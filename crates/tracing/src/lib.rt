@@ -20,7 +20,9 @@ use model::Refusal;
 use model::Scratch;
 use model::Verdict;
 
-// Room for the addresses of the largest file, 64 basic blocks of 124 records, and for one more, so that too many are seen.
+// The addresses that a room holds at least: those of the largest file, 64 basic blocks of 124 records,
+// and one more. So a trace of too many records keeps too many addresses and is refused.
+// `Scan::finish` refuses a smaller room with 9.
 pub const ROOM: usize = 7937;
 
 // How a trace becomes a task: a memory block's bytes, records for each basic block, ticks for each record, and the header's S, Q, R and id.
@@ -480,13 +482,21 @@ impl Scan {
         }
     }
 
-    // Writes the file of a text that ends here into the output, or refuses it; the addresses are those that were kept. 9, 10, 13, 14 in this order.
-    // On a refusal the output stays what it was.
+    // Writes the file of a text that ends here into the output, or refuses it. `addresses` is the
+    // room that `over` was lent. 9 for a room of fewer than ROOM addresses or for the output's
+    // length, then 10, 13 and 14. On a refusal the output stays what it was.
     pub fn finish(self, addresses: &[u32], settings: Settings, out: &mut [u8]) -> Traced
         ensures { λ r. ⌜ r ≡ scanAnswer settings self (now (addresses .entry)) (now (out .entry)) ⌝ }
         ensures { λ _. ⌜ now (out .exit) ≡ scanOutput settings self (now (addresses .entry)) (now (out .entry)) ⌝ }
     {
-        let count = smaller(self.records, addresses.len());
+        let size = addresses.len();
+        if size < ROOM {
+            return Traced {
+                verdict: Verdict::Refused(Refusal::Output),
+                length: 0,
+            };
+        }
+        let count = smaller(self.records, size);
         self.write(&addresses[..count], settings, out)
     }
 }

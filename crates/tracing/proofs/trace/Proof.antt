@@ -1,4 +1,5 @@
--- `tracing::trace` meets its contract: the whole text is scanned, and what is made of the scan is what its lines make.
+-- `tracing::trace` meets its contract: the whole text is scanned, and what is made of the scan is
+-- what its lines make. Its array is room enough.
 -- Assumes nothing.
 use borrow.Author.Needs.{needs}
 use Prim.Native.Nat.{ℕ}
@@ -7,9 +8,9 @@ use mathlib.Core.List.{List}
 use native.Mathlib.Omega.{arith}
 use lib.ListN.{replicate, length-replicate}
 use Rattle.tracing.specs.Scans.{scanned, kept}
-use Rattle.tracing.specs.Calls.{scanAnswer, scanOutput}
+use Rattle.tracing.specs.Calls.{leastRoom, scanAnswer, scanOutput}
 use Rattle.tracing.specs.declared.Scan.{Scan}
-use Rattle.tracing.proofs.Whole.{scanned-whole}
+use Rattle.tracing.proofs.Whole.{room-enough, scanned-whole}
 use Rattle.tracing.proofs.trace.Statement.{statement}
 use Rattle.tracing.proofs.trace.Tie as tie
 
@@ -36,15 +37,16 @@ returns c =
     let args = c .before .before .before .before .before .before .before .before .before .before .before .args in
     let text = args .text .now in
     let out = args .out .now in
-    let zeros = replicate {A = ℕ} 7937 0 in
+    let zeros = replicate {A = ℕ} leastRoom 0 in
     let begun = c .before .before .before .before .before .before .before .before .start .ensures in
     let over = c .before .before .before .before .before .before .over in
     let made = c .before .before .finish .ensures in
     let scan = over .ensures .0 ∙ ap (λ (s : Scan). scanned s text) begun in
     let found = over .ensures .1 ∙ ap (λ (s : Scan). kept s text zeros) begun in
-    let whole = scanned-whole (args .settings) text zeros out (omega arith) (rw length-replicate (omega arith)) in (
-      made .0 ∙ ap₂ (λ (s : Scan) (xs : List ℕ). scanAnswer (args .settings) s xs out) scan found ∙ whole .0,
-      made .1 ∙ ap₂ (λ (s : Scan) (xs : List ℕ). scanOutput (args .settings) s xs out) scan found ∙ whole .1,
+    let whole = scanned-whole (args .settings) text zeros out (omega arith) in
+    let enough = room-enough zeros out _ _ (rw length-replicate (omega arith)) in (
+      made .0 ∙ ap₂ (λ (s : Scan) (xs : List ℕ). scanAnswer (args .settings) s xs out) scan found ∙ whole .0 ∙ enough .0,
+      made .1 ∙ ap₂ (λ (s : Scan) (xs : List ℕ). scanOutput (args .settings) s xs out) scan found ∙ whole .1 ∙ enough .1,
     )
 
 pub trace-spec : {M : Type 1} → statement M

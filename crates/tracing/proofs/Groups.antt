@@ -62,6 +62,14 @@ fits-at f a (suc n) (suc i) e h =
     rw (add-suc, ← suc-add)
     (fits-at f (suc a) n i (and-eq-true-iff (leb (f a .time) 4294967295) (timesFit (collect f (suc a) n)) .0 e .1) (omega arith))
 
+-- a time above 0 is that of a block with records
+group-some : (n g ticks most : ℕ) → most < min n g * ticks → 1 ≤ g
+group-some n zero ticks most h =
+    let none : min n 0 ≡ 0 = omega arith in
+    let e : min n 0 * ticks ≡ 0 = rw none (zero-mul ticks) in
+    absurd (omega arith)
+group-some n (suc g) ticks most h = omega arith
+
 module _ (s : Settings) (addresses : List ℕ) where
   abbrev timeAt : ℕ → ℕ
   timeAt i = length (groupAt (s .group) addresses i) * s .ticks
@@ -81,10 +89,11 @@ module _ (s : Settings) (addresses : List ℕ) where
   unfolding recordsRow
   many-refused h = simp (lt-leb (length addresses) (64 * s .group) h, and-false)
 
-  module _ (some : 1 ≤ length addresses) (few : length addresses ≤ 64 * s .group) where
-    pub records-accepted : min (length addresses) (s .group) * s .ticks ≤ 4294967295 → Accepted ≡ recordsRow s addresses
+  module _ (some : 1 ≤ length addresses) where
+    pub records-accepted : length addresses ≤ 64 * s .group → min (length addresses) (s .group) * s .ticks ≤ 4294967295
+        → Accepted ≡ recordsRow s addresses
     unfolding recordsRow tracedBlocks tracedBlock
-    records-accepted h =
+    records-accepted few h =
         rw (
           le-leb 1 (length addresses) some,
           le-leb (length addresses) (64 * s .group) few,
@@ -94,7 +103,7 @@ module _ (s : Settings) (addresses : List ℕ) where
     too-long : 4294967295 < min (length addresses) (s .group) * s .ticks → timesFit (tracedBlocks s addresses) ≡ true → ⊥
     unfolding tracedBlocks tracedBlock
     too-long h e =
-        let least : 1 ≤ s .group = omega arith in
+        let least : 1 ≤ s .group = group-some (length addresses) (s .group) (s .ticks) 4294967295 h in
         let first = fits-at (λ i. tracedBlock s (groupAt (s .group) addresses i)) 0 _ 0 e (blocks-least (length addresses) (s .group) least some) in
         omega (arith, first, time-first)
 

@@ -19,7 +19,9 @@ mul-if2 : tie.Need-mul-if2
 mul-if2 c = search needs
 
 returns-2 : tie.Need-returns-2
-returns-2 c = many-refused (c .before .before .before .before .args .settings) _ (c .if2 .taken)
+returns-2 c =
+    let args = c .before .before .before .before .args in
+    many-refused (args .settings) (args .addresses .now) (omega arith)
 
 smaller-requires : tie.Need-smaller-requires
 smaller-requires c κs = search needs
@@ -36,13 +38,13 @@ mul-if3 c =
 returns-3 : tie.Need-returns-3
 returns-3 c =
     let args = c .before .before .before .before .before .before .before .args in
-    long-refused (args .settings) (args .addresses .now) (omega arith) (c .before .before .before .if2 .left)
+    long-refused (args .settings) (args .addresses .now) (omega arith)
     (omega (arith, ap (λ (n : ℕ). n * args .settings .ticks) (c .before .before .smaller .ensures)))
 
 returns-4 : tie.Need-returns-4
 returns-4 c =
     let args = c .before .before .before .before .before .before .before .args in
-    records-accepted (args .settings) (args .addresses .now) (omega arith) (c .before .before .before .if2 .left)
+    records-accepted (args .settings) (args .addresses .now) (omega arith) (omega arith)
     (omega (arith, ap (λ (n : ℕ). n * args .settings .ticks) (c .before .before .smaller .ensures)))
 
 pub check-records-spec : {M : Type 1} → statement M

@@ -1,5 +1,6 @@
 -- What is made of a scanned text is what its lines make, if the room is large enough. Where more
--- records are found than there is room for, both are refused. A room that is too small is refused first.
+-- records are found than there is room for, both are refused. A room that is too small is refused
+-- first.
 -- Assumes nothing.
 use Prim.Native.Nat.{ℕ, _+_, _^_, _<_, _≤_}
 use mathlib.Core.Path.{_≡_, refl, sym, ap, _∙_}

@@ -20,8 +20,8 @@ use model::Refusal;
 use model::Scratch;
 use model::Verdict;
 
-// The addresses that a room holds at least: those of the largest file, 64 basic blocks of 124 records,
-// and one more. So a trace of too many records keeps too many addresses and is refused.
+// The addresses that a room holds at least: those of the largest file, 64 basic blocks of 124
+// records, and one more. So a trace of too many records keeps too many addresses and is refused.
 // `Scan::finish` refuses a smaller room with 9.
 pub const ROOM: usize = 7937;
 

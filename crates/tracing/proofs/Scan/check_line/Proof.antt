@@ -1,5 +1,6 @@
 -- `tracing::Scan::check_line` meets its contract, by the column.
 -- Assumes nothing.
+use native.Mathlib.Omega.{arith}
 use borrow.Author.Tests.{eq-eqb, ne-eqb}
 use Rattle.tracing.specs.Scans.{scanPlace}
 use Rattle.tracing.specs.Calls.{lineRow}
@@ -8,7 +9,7 @@ use Rattle.tracing.proofs.Scan.check_line.Tie as tie
 
 returns : tie.Need-returns
 unfolding lineRow scanPlace
-returns c = rw (eq-eqb _ 0 (c .if1 .taken))
+returns c = rw (eq-eqb (c .before .before .args .self .column) 0 (omega arith))
 
 returns-2 : tie.Need-returns-2
 unfolding lineRow scanPlace

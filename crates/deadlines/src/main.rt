@@ -5,7 +5,6 @@ ghost use lib.ListN.{length};
 use decimals::Decimal;
 use demand::Answer;
 use demand::Deadlines;
-use demand::TaskRecord;
 use demand::TaskSet;
 use model::Verdict;
 
@@ -57,13 +56,9 @@ fn read_line(line: &[u8], numbers: &mut [u32; 4]) -> bool {
     line.len() < at
 }
 
-fn task_of(numbers: [u32; 4]) -> TaskRecord {
-    TaskRecord {
-        execution: numbers[0],
-        period: numbers[1],
-        deadline: numbers[2],
-        region: numbers[3],
-    }
+// The set with the task that a line's numbers give.
+fn with_line(set: TaskSet, numbers: [u32; 4]) -> TaskSet {
+    demand::with_task(set, numbers[0], numbers[1], numbers[2], numbers[3])
 }
 
 // The set of a text; the line feed of the last line may be missing.
@@ -76,7 +71,7 @@ fn read_set(text: &[u8]) -> TextRead {
         if !read_line(&text[at..end], &mut numbers) {
             return TextRead { right: false, set };
         }
-        set = demand::with_task(set, task_of(numbers));
+        set = with_line(set, numbers);
         at = end + 1;
     }
     TextRead { right: true, set }

@@ -7,6 +7,7 @@ use Rattle.model.specs.Cases.{RefusedBy}
 use Rattle.model.specs.declared.Verdict.the-variants.{Accepted}
 use Rattle.demand.specs.Demand.{mostTicks, total}
 use Rattle.demand.specs.Calls.{answer}
+use Rattle.demand.specs.Loading.{task}
 use Rattle.demand.specs.declared.Answer.{Answer}
 use Rattle.demand.specs.declared.Deadlines.{Deadlines}
 use Rattle.demand.specs.declared.Deadlines.the-variants.{Met, Missed}
@@ -26,10 +27,6 @@ CaseHolds (metUpTo τs horizon) = answer τs horizon ≡ accepting Met
 CaseHolds (missedAt τs t) = (horizon : ℕ) → t ≤ horizon → horizon ≤ mostTicks → answer τs horizon ≡ accepting (Missed t)
 CaseHolds (totalIs τs t n) = total τs t ≡ n
 CaseHolds (refused τs horizon n i) = RefusedBy n i (answer τs horizon .verdict)
-
--- e, p, d and q
-abbrev pub task : ℕ → ℕ → ℕ → ℕ → TaskRecord
-task e p d q = record { execution = e; period = p; deadline = d; region = q }
 
 -- two tasks, the second with this execution time
 abbrev pub twoPeriods : ℕ → List TaskRecord

@@ -6,8 +6,12 @@ use Rattle.demand.specs.Calls.{mostTasks}
 use Rattle.demand.specs.declared.TaskRecord.{TaskRecord}
 use Rattle.demand.specs.declared.TaskSet.{TaskSet}
 
+-- e, p, d and q
+abbrev pub task : ℕ → ℕ → ℕ → ℕ → TaskRecord
+task e p d q = record { execution = e; period = p; deadline = d; region = q }
+
 abbrev pub noTask : TaskRecord
-noTask = record { execution = 0; period = 0; deadline = 0; region = 0 }
+noTask = task 0 0 0 0
 
 abbrev pub noTasks : TaskSet
 noTasks = record { count = 0; tasks = replicate mostTasks noTask }

@@ -6,7 +6,7 @@ ghost use lib.Dec.{ltb};
 ghost use lib.ListN.{length, getD, take};
 ghost use Rattle.demand.specs.Demand.{mostTicks, deadlinesOf};
 ghost use Rattle.demand.specs.Calls.{mostTasks, inRange, rightTask, rightSet, answer, answerOf};
-ghost use Rattle.demand.specs.Loading.{noTasks, withTask, loadedSet};
+ghost use Rattle.demand.specs.Loading.{task, noTasks, withTask, loadedSet};
 ghost use Rattle.demand.specs.Lanes.{Holds, Spread, Ranged, below, atInstant, moved, latest, blockedBy, endedBy, BlockedUntil};
 use model::Refusal;
 use model::Verdict;
@@ -78,7 +78,8 @@ pub fn load(tasks: &[TaskRecord]) -> TaskSet
     let mut set = no_tasks();
     let mut k = 0;
     while k < tasks.len() {
-        set = with_task(set, tasks[k]);
+        let task = tasks[k];
+        set = with_task(set, task.execution, task.period, task.deadline, task.region);
         k += 1;
     }
     set
@@ -99,16 +100,21 @@ pub fn no_tasks() -> TaskSet
     }
 }
 
-// The set with one task more, which is only counted where there are 16 already.
-pub fn with_task(set: TaskSet, task: TaskRecord) -> TaskSet
-    ensures { λ r. ⌜ r ≡ withTask set task ⌝ }
+// The set with a task added, which is only counted if the set already has 16.
+pub fn with_task(set: TaskSet, execution: u32, period: u32, deadline: u32, region: u32) -> TaskSet
+    ensures { λ r. ⌜ r ≡ withTask set (task execution period deadline region) ⌝ }
 {
     let count = set.count;
     let mut tasks = set.tasks;
     if 16 <= count {
         return TaskSet { count: 17, tasks };
     }
-    tasks[count] = task;
+    tasks[count] = TaskRecord {
+        execution,
+        period,
+        deadline,
+        region,
+    };
     TaskSet {
         count: count + 1,
         tasks,

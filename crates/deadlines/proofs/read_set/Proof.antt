@@ -1,4 +1,4 @@
--- `deadlines::read_set` is safe and ends: each line begins behind the one before. Assumes nothing.
+-- `deadlines::read_set` is safe and ends: each line begins after the one before. Assumes nothing.
 use borrow.Author.Needs.{needs}
 use Prim.Native.Nat.{_+_, _-_, _≤_}
 use lib.ListN.{length}
@@ -35,11 +35,8 @@ read-line-requires c κs = search needs
 returns : tie.Need-returns Inv-loop μ-loop
 returns c = search needs
 
-task-of-requires : tie.Need-task-of-requires Inv-loop μ-loop
-task-of-requires c κs = search needs
-
-with-task-requires : tie.Need-with-task-requires Inv-loop μ-loop
-with-task-requires c κs = search needs
+with-line-requires : tie.Need-with-line-requires Inv-loop μ-loop
+with-line-requires c κs = search needs
 
 add-at : tie.Need-add-at Inv-loop μ-loop
 add-at c = search needs
@@ -67,8 +64,7 @@ read-set-spec =
     part-read-line-end
     read-line-requires
     returns
-    task-of-requires
-    with-task-requires
+    with-line-requires
     add-at
     loop-less
     loop-again

@@ -15,11 +15,11 @@ mul-tasks c = search needs
 array-set-from-tasks : tie.Need-array-set-from-tasks
 array-set-from-tasks c = search needs
 
-add-t7 : tie.Need-add-t7
-add-t7 c = search needs
+add-t11 : tie.Need-add-t11
+add-t11 c = search needs
 
 returns-2 : tie.Need-returns-2
 returns-2 c = kept _ _ (omega arith)
 
 pub with-task-spec : {M : Type 1} → statement M
-with-task-spec = tie.close (tie.spec returns mul-tasks array-set-from-tasks add-t7 returns-2)
+with-task-spec = tie.close (tie.spec returns mul-tasks array-set-from-tasks add-t11 returns-2)

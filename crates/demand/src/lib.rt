@@ -158,7 +158,10 @@ fn right_set(set: TaskSet) -> bool
     ensures { λ r. ⌜ r ≡ rightSet (set .count) (take (set .count) (set .tasks)) ⌝ }
 {
     let count = set.count;
-    if count < 1 || 16 < count {
+    if count < 1 {
+        return false;
+    }
+    if 16 < count {
         return false;
     }
     let mut i = 0;

@@ -82,7 +82,7 @@ returns c =
     let done = c .before .before .before .before .before .pass .ensures in
     let now-blocked = c .before .before .blocked-from .ensures in
     let all = total-is _ _ _ _ _ _ (arrays at) _ _ _ _ _ _ _ _ (at .loop .inv .0 _ (arrays at)) (done .0) (now-blocked .0 (at .loop .t) (omega arith) (now-blocked .1)) (done .1 .0) (done .1 .1) in
-    sym (first-missed _ _ _ _ _ (at .loop .inv .0 _ (arrays at)) (c .before .before .before .before .before .before .before .before .before .loop-test .taken) (omega (arith, all, c .if1 .taken)))
+    sym (first-missed _ _ _ _ _ (at .loop .inv .0 _ (arrays at)) (omega (arith, c .before .before .before .before .before .before .before .before .before .loop-test .taken)) (omega (arith, all, c .if1 .taken)))
 
 loop-less : tie.Need-loop-less Inv-loop μ-loop
 loop-less c =
@@ -105,7 +105,7 @@ loop-again c =
     )
 
 returns-2 : tie.Need-returns-2 Inv-loop μ-loop
-returns-2 c = let at = c .before in sym (all-met _ _ _ _ _ (at .loop .inv .0 _ (arrays at)) (c .loop-test .left))
+returns-2 c = let at = c .before in sym (all-met _ _ _ _ _ (at .loop .inv .0 _ (arrays at)) (omega (arith, c .loop-test .left)))
 
 pub first-miss-spec : {M : Type 1} → statement M
 first-miss-spec =

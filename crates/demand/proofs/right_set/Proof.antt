@@ -2,10 +2,10 @@
 use Prim.Native.Nat.{_-_, _≤_}
 use mathlib.Core.Path.{_≡_, refl, sym, _∙_}
 use mathlib.Core.Bool.{true, false}
-use mathlib.Core.Logic.{inl, inr, ⊎-elim}
+use mathlib.Core.Logic.{inl, inr}
 use native.Mathlib.Omega.{arith}
 use borrow.Author.Needs.{needs}
-use borrow.Author.Tests.{ltb-true, ltb-false, not-true, not-false}
+use borrow.Author.Tests.{not-true, not-false}
 use lib.ListN.{length, take, drop}
 use Rattle.demand.specs.Calls.{mostTasks, rightTask, rightTasks}
 use Rattle.demand.specs.Lanes.{lane}
@@ -21,10 +21,13 @@ abbrev μ-loop : tie.MeasureT-loop
 μ-loop set count i₀ i = count - i
 
 returns : tie.Need-returns Inv-loop μ-loop
-returns c = sym (set-wrong _ _ (⊎-elim (λ w. inl (w .taken)) (λ w. inr (ltb-true _ _ (w .1 .taken))) (c .if1 .came)))
+returns c = sym (set-wrong _ _ (inl (omega arith)))
+
+returns-2 : tie.Need-returns-2 Inv-loop μ-loop
+returns-2 c = sym (set-wrong _ _ (inr (omega arith)))
 
 loop-holds : tie.Need-loop-holds Inv-loop μ-loop
-loop-holds c = (c .before .if1 .left, ltb-false _ _ (c .if2 .left), omega arith, refl)
+loop-holds c = (omega arith, omega arith, omega arith, refl)
 
 mul-right-task : tie.Need-mul-right-task Inv-loop μ-loop
 mul-right-task c = omega arith
@@ -35,8 +38,8 @@ element-copy-out-right-task c = omega arith
 right-task-requires : tie.Need-right-task-requires Inv-loop μ-loop
 right-task-requires c κs = omega arith
 
-returns-2 : tie.Need-returns-2 Inv-loop μ-loop
-returns-2 c =
+returns-3 : tie.Need-returns-3 Inv-loop μ-loop
+returns-3 c =
     let at = c .before .before .before .before in
     let inv = at .loop .inv in
     let set = at .before .before .before .args .t1 in
@@ -67,8 +70,8 @@ loop-again c =
       inv .3 ∙ rights-more (take (set .count) (set .tasks)) (at .loop .i) (omega arith) right,
     )
 
-returns-3 : tie.Need-returns-3 Inv-loop μ-loop
-returns-3 c =
+returns-4 : tie.Need-returns-4 Inv-loop μ-loop
+returns-4 c =
     let inv = c .before .loop .inv in
     let set = c .before .before .before .before .args .t1 in
     let long : length (set .tasks) ≡ 16 = search (needs, array-long) in
@@ -82,12 +85,13 @@ right-set-spec =
     Inv-loop
     μ-loop
     returns
+    returns-2
     loop-holds
     mul-right-task
     element-copy-out-right-task
     right-task-requires
-    returns-2
+    returns-3
     add-i
     loop-less
     loop-again
-    returns-3)
+    returns-4)

@@ -7,7 +7,7 @@ use Rattle.demand.proofs.with_task.Statement.{statement}
 use Rattle.demand.proofs.with_task.Tie as tie
 
 returns : tie.Need-returns
-returns c = only-counted (c .before .before .args .set) _ (search (needs, array-long)) (c .if1 .taken)
+returns c = only-counted (c .before .before .args .set) _ (search (needs, array-long)) (omega arith)
 
 mul-tasks : tie.Need-mul-tasks
 mul-tasks c = search needs

@@ -37,7 +37,7 @@ module _ (first second out : List ℕ) (e : joinVerdict first second out ≡ Acc
   made =
       rw left
       (file-then-task (joined (taskOf first) (taskOf second))
-      (within-joined (taskOf first) (taskOf second) (accepted-within first (parts .0)) (accepted-within second (parts .1)) (rows .fit)))
+      (within-joined (taskOf first) (taskOf second) (accepted-within first (parts .0)) (accepted-within second (parts .1)) (rows .room .fit)))
 
 pub joined-accepted : JoinedAccepted
 joined-accepted first second out e = made first second out e

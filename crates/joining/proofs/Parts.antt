@@ -14,12 +14,12 @@ use Rattle.writer.proofs.Copying.{copied}
 use Rattle.joining.specs.Joining.{joined}
 
 -- the lengths of a file's parts
-module _ (file part : List ℕ) (e : verdict file ≡ Accepted) where
-  pub basics-length : part ≡ basicBlocks (taskOf file) → length part ≡ 512 * blockCount (taskOf file)
-  basics-length s = rw s (basics-long (taskOf file) (accepted-within file e))
+module _ (file part : List ℕ) where
+  pub basics-length : part ≡ basicBlocks (taskOf file) → verdict file ≡ Accepted → length part ≡ 512 * blockCount (taskOf file)
+  basics-length s e = rw s (basics-long (taskOf file) (accepted-within file e))
 
-  pub preempters-length : part ≡ preempterBlocks (taskOf file) → length part ≡ 512 * length (taskOf file .preempters)
-  preempters-length s = rw s (preempters-long (taskOf file) (accepted-within file e))
+  pub preempters-length : part ≡ preempterBlocks (taskOf file) → verdict file ≡ Accepted → length part ≡ 512 * length (taskOf file .preempters)
+  preempters-length s e = rw s (preempters-long (taskOf file) (accepted-within file e))
 
 -- what copies of the parts of both are
 module _ (first second : List ℕ) (e : verdict first ≡ Accepted) (f : verdict second ≡ Accepted) (k : ℕ) (source other old new : List ℕ)

@@ -1,7 +1,7 @@
 -- Laws of joined tasks: their counts, what the rows say when they accept, and that a joined task is within the limits of a file.
 -- Assumes nothing.
 use Prim.Native.Nat.{ℕ, _+_, _*_, _≤_, min}
-use mathlib.Core.Path.{_≡_, refl}
+use mathlib.Core.Path.{_≡_, refl, sym, _∙_}
 use mathlib.Core.Bool.{true, _&&_, and-eq-true-iff}
 use mathlib.Core.List.{append-assoc}
 use native.Mathlib.Omega.{arith}
@@ -9,8 +9,9 @@ use lib.Dec.{eqb, leb}
 use lib.ListN.{length, length-append}
 use borrow.Author.Tests.{eqb-true, leb-true, eq-eqb, le-leb}
 use Rattle.model.specs.Task.{Task, blockCount, lineCount}
-use Rattle.model.specs.Answers.{outputRow}
+use Rattle.model.specs.Answers.{andThen, outputRow}
 use Rattle.model.specs.declared.Refusal.the-variants.{Mismatch, TooManyBlocks}
+use Rattle.model.specs.declared.Verdict.{Verdict}
 use Rattle.model.specs.declared.Verdict.the-variants.{Accepted}
 use Rattle.model.proofs.Verdicts.{both-accepted, row-holds, output-size}
 use Rattle.block.specs.Bytes.{Each}
@@ -65,24 +66,31 @@ pub few-fit : (n m : ℕ) → n ≤ 64 → m ≤ 32 → countsFit n m ≡ true
 unfolding countsFit
 few-fit n m h l = rw (le-leb n 64 h, le-leb m 32 l)
 
--- what the rows say when they accept
+-- what rows 12 and 9 say when they accept n basic blocks, m preempters and an output of this length
+pub record Roomy (n m size : ℕ) : Type 0 where
+  pub fit : countsFit n m ≡ true
+  pub long : size ≡ 512 * (1 + n + m)
+
+pub room-accepts : (n m size : ℕ) → andThen (totalsRow n m) (outputRow (fileSize n m) size) ≡ Accepted → Roomy n m size
+unfolding totalsRow
+room-accepts n m size e =
+    let both = both-accepted (totalsRow n m) (outputRow (fileSize n m) size) e in
+    record { fit = row-holds TooManyBlocks _ (both .0); long = output-size (fileSize n m) size (both .1) }
+
+-- and all rows
 pub record RowsAccept (t u : Task) (size : ℕ) : Type 0 where
   pub agreed : agree t u ≡ true
-  pub fit : countsFit (blockCount (joined t u)) (length (joined t u .preempters)) ≡ true
-  pub long : size ≡ 512 * (1 + blockCount (joined t u) + length (joined t u .preempters))
+  pub room : Roomy (blockCount (joined t u)) (length (joined t u .preempters)) size
 
 pub rows-accept : (t u : Task) (size : ℕ) → joinRows t u size ≡ Accepted → RowsAccept t u size
-unfolding joinRows agreeRow totalsRow
+unfolding joinRows agreeRow
 rows-accept t u size e =
-    let n = blockCount (joined t u) in
-    let m = length (joined t u .preempters) in
-    let first = both-accepted (agreeRow t u) _ e in
-    let second = both-accepted (totalsRow n m) (outputRow (fileSize n m) size) (first .1) in
-    record {
-      agreed = row-holds Mismatch _ (first .0);
-      fit = row-holds TooManyBlocks _ (second .0);
-      long = output-size (fileSize n m) size (second .1);
-    }
+    let both = both-accepted (agreeRow t u) _ e in
+    record { agreed = row-holds Mismatch _ (both .0); room = room-accepts _ _ size (both .1) }
+
+-- if two rows together accept, the second one accepts
+pub second-accepts : (v a b : Verdict) → v ≡ andThen a b → v ≡ Accepted → b ≡ Accepted
+second-accepts v a b e h = both-accepted a b (sym e ∙ h) .1
 
 -- the joined task is within the limits of a file
 pub within-joined : (t u : Task) → Within t → Within u → countsFit (blockCount (joined t u)) (length (joined t u .preempters)) ≡ true

@@ -6,11 +6,12 @@ use native.Mathlib.Omega.{arith}
 use lib.ListN.{length}
 use Rattle.model.specs.Answers.{andThen, outputRow}
 use Rattle.model.specs.Task.{blockCount}
+use Rattle.model.specs.declared.Verdict.the-variants.{Accepted}
 use Rattle.taskfile.specs.File.{taskOf}
 use Rattle.writer.specs.Writing.{fileSize}
 use Rattle.joining.specs.Joining.{joined}
 use Rattle.joining.specs.Calls.{totalsRow, joinRows}
-use Rattle.joining.proofs.Tasks.{count-joined, preempters-joined, counts-fit, rows-accept}
+use Rattle.joining.proofs.Tasks.{count-joined, preempters-joined, counts-fit, room-accepts, second-accepts}
 use borrow.Author.Needs.{needs}
 use Rattle.joining.proofs.join_accepted.Statement.{statement}
 use Rattle.joining.proofs.join_accepted.Tie as tie
@@ -32,21 +33,29 @@ totals c =
       ap₂ _+_ (others .before .preempter-count .ensures .0) (others .preempter-count2 .ensures .0) ∙ sym (preempters-joined t u),
     )
 
--- the verdict is the one that the contract states
-decided : (c : tie.After-earlier2) → let args = c .before .before .before .before .before .before .before .before .before .before .before .before .before .args in
-    c .earlier2 .result ≡ joinRows (taskOf (args .first .now)) (taskOf (args .second .now)) (length (args .out .now))
-unfolding joinRows
-decided c =
+-- the verdict of rows 12 and 9 is the one that the contract states
+roomed : (c : tie.After-earlier2) → let args = c .before .before .before .before .before .before .before .before .before .before .before .before .before .args in
+    let both = joined (taskOf (args .first .now)) (taskOf (args .second .now)) in
+    let n = blockCount both in
+    let m = length (both .preempters) in
+    c .before .earlier .result ≡ andThen (totalsRow n m) (outputRow (fileSize n m) (length (args .out .now)))
+roomed c =
     let output = c .before .before in
     let size = output .before in
     let counts = size .before in
     let args = counts .before .before .before .before .before .before .before .before .before .args in
     let n = totals c .0 in
     let m = totals c .1 in
-    c .earlier2 .ensures ∙
-    ap₂ andThen (counts .before .check-agree .ensures)
-    (c .before .earlier .ensures ∙
-    ap₂ andThen (counts .check-totals .ensures ∙ ap₂ totalsRow n m) (output .check-output .ensures ∙ ap (λ (x : ℕ). outputRow x (length (args .out .now))) (size .file-size .ensures ∙ ap₂ fileSize n m)))
+    c .before .earlier .ensures ∙
+    ap₂ andThen (counts .check-totals .ensures ∙ ap₂ totalsRow n m) (output .check-output .ensures ∙ ap (λ (x : ℕ). outputRow x (length (args .out .now))) (size .file-size .ensures ∙ ap₂ fileSize n m))
+
+-- and so is the verdict of all rows
+decided : (c : tie.After-earlier2) → let args = c .before .before .before .before .before .before .before .before .before .before .before .before .before .args in
+    c .earlier2 .result ≡ joinRows (taskOf (args .first .now)) (taskOf (args .second .now)) (length (args .out .now))
+unfolding joinRows
+decided c =
+    let counts = c .before .before .before .before in
+    c .earlier2 .ensures ∙ ap₂ andThen (counts .before .check-agree .ensures) (roomed c)
 
 block-count-requires : tie.Need-block-count-requires
 block-count-requires c κs = search needs
@@ -96,14 +105,14 @@ enum-told c = search needs
 put-joined-requires : tie.Need-put-joined-requires
 put-joined-requires c κs =
     let told = c .before in
-    let counts = totals (told .before .before) in
-    let start = told .before .before .before .before .before .before .before .before .before .before .before .before .before .before .before in
-    let t = taskOf (start .args .first .now) in
-    let u = taskOf (start .args .second .now) in
-    let rows = rows-accept t u (length (start .args .out .now)) (sym (decided (told .before .before)) ∙ told .enum-told .given .1) in
-    let fit = counts-fit _ _ (rows .fit) in (
+    let rows = told .before .before in
+    let start = rows .before .before .before .before .before .before .before .before .before .before .before .before .before in
+    let counts = totals rows in
+    let later : rows .before .earlier .result ≡ Accepted = search (needs, second-accepts) in
+    let room = room-accepts _ _ _ (sym (roomed rows) ∙ later) in
+    let fit = counts-fit _ _ (room .fit) in (
       start .pre,
-      (record { blocks = counts .0; preempters = counts .1; fit = (omega (arith, counts .0), omega (arith, counts .1)) }, omega (arith, rows .long, counts .0, counts .1)),
+      (record { blocks = counts .0; preempters = counts .1; fit = (omega (arith, counts .0), omega (arith, counts .1)) }, omega (arith, room .long, counts .0, counts .1)),
     )
 
 enum-told-2 : tie.Need-enum-told-2

@@ -42,8 +42,8 @@ copy-both-requires : tie.Need-copy-both-requires
 copy-both-requires c κs =
     let start = c .before .before .before .before .before .before .before in
     let sizes = room start in
-    let one = basics-length (start .args .first .now) (c .before .basic-blocks .result .now) (start .pre .0 .0) (c .before .basic-blocks .ensures) in
-    let other = basics-length (start .args .second .now) (c .basic-blocks2 .result .now) (start .pre .0 .1) (c .basic-blocks2 .ensures) in
+    let one = basics-length _ _ (c .before .basic-blocks .ensures) (search needs) in
+    let other = basics-length _ _ (c .basic-blocks2 .ensures) (search needs) in
     ((omega (arith, one), omega (arith, other)), (omega (arith, one, other, sizes), omega (arith, sizes)))
 
 preempter-blocks-requires : tie.Need-preempter-blocks-requires
@@ -57,8 +57,8 @@ copy-both-requires-2 c κs =
     let out = c .before .before .before .before in
     let start = out .before .before .before .before .before .before .before .before .before in
     let sizes = room start in
-    let one = preempters-length (start .args .first .now) (c .before .preempter-blocks .result .now) (start .pre .0 .0) (c .before .preempter-blocks .ensures) in
-    let other = preempters-length (start .args .second .now) (c .preempter-blocks2 .result .now) (start .pre .0 .1) (c .preempter-blocks2 .ensures) in
+    let one = preempters-length _ _ (c .before .preempter-blocks .ensures) (search needs) in
+    let other = preempters-length _ _ (c .preempter-blocks2 .ensures) (search needs) in
     ((omega (arith, one), omega (arith, other)), (omega (arith, one, other, sizes, out .out .given), omega (arith, sizes, out .out .given)))
 
 cast-close-file : tie.Need-cast-close-file

@@ -6,7 +6,7 @@ use mathlib.Core.List.{List}
 use native.Mathlib.Omega.{arith}
 use lib.ListN.{length}
 use Rattle.model.specs.Task.{Block, Preempter, Task, withPreempters}
-use Rattle.model.specs.Lines.{blockAt, evicted}
+use Rattle.model.specs.Lines.{blockAt}
 use Rattle.block.specs.Bytes.{Sized, packed, Each}
 use Rattle.block.specs.Blocks.{numbered, sealed}
 use Rattle.taskfile.specs.File.{blockIn, counts, basicOf, taskOf, taskNumbers, basicBytes, fileOf, headerInRange, EntryWithin, Within}
@@ -50,5 +50,5 @@ replaced file ps e count fit same =
       blocks = blocks-same file (fileOf u) (accepted file e) (accepted (fileOf u) (made .0))
           (sym (header-same t ps count) ∙ ap taskNumbers (sym (made .1)))
           (ap (λ (x : Task). x .blocks) (sym (made .1)));
-      touched = λ c. same c ∙ ap (λ (x : Task). evicted x c) (sym (made .1));
+      touched = λ c. search (same c, made .1);
     }

@@ -12,7 +12,8 @@ use model::Verdict;
 // The blocks of the largest file.
 const MOST_BLOCKS: usize = 97;
 
-// A refusal's number in the table of document 01.
+// A refusal's number: 1 to 9 of document 01, 10 to 16 of document 02. 17, for the text of a task, is
+// ours and in no document.
 pub fn refusal_number(refusal: Refusal) -> u32
     ensures { λ r. ⌜ r ≡ number refusal ⌝ }
 {

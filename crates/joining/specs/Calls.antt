@@ -13,7 +13,7 @@ use Rattle.taskfile.specs.File.{taskOf, fileOf, verdict}
 use Rattle.writer.specs.Writing.{fileSize}
 use Rattle.joining.specs.Joining.{joined, agree, countsFit}
 
--- refusal 11: S, R or the scratch range differ
+-- refusal 11: S, R, the scratch range or G differ (document 02, items 8 and 14)
 unfoldable pub agreeRow : Task → Task → Verdict
 agreeRow t u = cond (agree t u) Accepted (Refused Mismatch)
 

@@ -1,4 +1,5 @@
--- Refusals and what they are to the build (document 01, "Numbers given to the build"). Assumes nothing.
+-- Refusals and what they are to the build: 1 to 9 of document 01, "Numbers given to the build", and
+-- 10 to 16 of document 02. 17, for the text of a task, is ours and in no document. Assumes nothing.
 use Prim.Native.Nat.{ℕ, _+_}
 use mathlib.Core.Bool.{Bool, true, false, cond}
 use mathlib.Core.List.{List}
@@ -15,7 +16,7 @@ use Rattle.model.specs.declared.Refusal.the-variants.{Length, Checksum, 
 use Rattle.model.specs.declared.Verdict.{Verdict}
 use Rattle.model.specs.declared.Verdict.the-variants.{Accepted, Refused}
 
--- the table's first column: the number
+-- the first column of document 01's table, which document 02 extends: the number
 abbrev pub number : Refusal → ℕ
 number Length = 1
 number (Checksum k) = 2

@@ -11,8 +11,9 @@ use Rattle.model.specs.declared.Verdict.the-variants.{Accepted, Refused}
 use Rattle.model.proofs.Verdicts.{both-accepted, row-holds}
 use Rattle.taskfile.specs.File.{IsAccepted, verdict, taskOf}
 use Rattle.taskfile.proofs.Accepted.{accepted, block-count}
-use Rattle.listing.specs.Calls.{listVerdict, nextIn, nextOf}
-use Rattle.listing.specs.declared.Found.the-variants.{NoMore}
+use Rattle.enumerating.specs.Search.{nextIn}
+use Rattle.enumerating.specs.declared.Found.the-variants.{NoMore}
+use Rattle.listing.specs.Calls.{listVerdict, nextOf}
 
 module _ (file : List ℕ) (listed : listVerdict file ≡ Accepted) where
   pub is-accepted : IsAccepted file

@@ -20,15 +20,16 @@ use Rattle.model.specs.declared.Plan.{Plan}
 use Rattle.model.specs.declared.Verdict.the-variants.{Accepted}
 use Rattle.model.proofs.Lowest.{scan-next, scan-here, scan-end, lowest-nowhere, nowhere-lowest, lowest-within}
 use Rattle.taskfile.specs.File.{taskOf}
-use Rattle.listing.specs.Numbers.{numberOf, listOf}
-use Rattle.listing.specs.Search.{passedOver, nextNumber, entryOf, foundAt}
+use Rattle.enumerating.specs.Numbers.{numberOf, listOf}
+use Rattle.enumerating.specs.Search.{passedOver, nextNumber, entryOf, foundAt}
 use Rattle.listing.specs.Calls.{listVerdict, nextOf}
 use Rattle.listing.specs.Statements.{entryOfList, FitsWell, IsNext, FindsLowest, FindsNoMore, Listed, ListingEnds, AllLists, ListsAll, LowestIsPlanned, EmptyIsRefused}
-use Rattle.listing.specs.declared.FittingList.{FittingList}
-use Rattle.listing.specs.declared.Found.the-variants.{NoMore, Fitting}
+use Rattle.enumerating.specs.declared.FittingList.{FittingList}
+use Rattle.enumerating.specs.declared.Found.the-variants.{NoMore, Fitting}
 use Rattle.listing.proofs.Accepted.{is-accepted, positive, next-listed}
-use Rattle.listing.proofs.Numbers.{list-right, number-of-list, list-of-number}
-use Rattle.listing.proofs.Searching.{lowest-found}
+use Rattle.enumerating.proofs.Numbers.{list-right}
+use Rattle.enumerating.proofs.Searching.{lowest-found}
+use Rattle.listing.proofs.Numbers.{number-of-list, list-of-number}
 
 -- of k numbers from s on, the entries of those that f does not pass over
 kept : (ℕ → Bool) → (ℕ → FittingList) → ℕ → ℕ → List FittingList

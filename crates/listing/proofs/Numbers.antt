@@ -1,36 +1,20 @@
--- Numbers and well-formed lists determine each other. The points that the bits of a number say rise, and their number is that number again; for a
--- well-formed list a number is found bit by bit, from the last point to the first. Assumes nothing.
-use Prim.Native.Nat.{ℕ, zero, suc, _+_, _-_, _*_, _/_, _%_, _^_, _≤_, _<_}
+-- Numbers and well-formed lists determine each other. The points that the bits of a number say have
+-- that number again. For a well-formed list a number is found bit by bit, from the last point to
+-- the first. Assumes nothing.
+use Prim.Native.Nat.{ℕ, zero, suc, _+_, _-_, _*_, _/_, _%_, _^_, _<_}
 use mathlib.Core.Path.{_≡_, refl, sym, ap, ap₂, _∙_}
 use mathlib.Core.Bool.{Bool, true, false, cond, and-eq-true-iff}
 use mathlib.Core.Logic.{by-cases}
 use mathlib.Core.List.{List, [], _∷_}
-use native.Mathlib.Nat.{le-refl, mul-zero, mul-one, one-mul, mul-add, mul-assoc, pow-suc}
+use native.Mathlib.Nat.{mul-zero, mul-one, one-mul, mul-add, mul-assoc, pow-suc}
 use native.Mathlib.Omega.{arith}
 use native.Mathlib.Decide.{ℕ-discrete}
 use lib.Dec.{eqb, ltb}
 use borrow.Author.Tests.{eqb-true, eqb-false, ltb-true, lt-ltb}
-use Rattle.model.specs.Lists.{steps, every, rightPoint, wellFormed}
-use Rattle.listing.specs.Numbers.{numberOf, pointsAfter, listOf}
+use Rattle.model.specs.Lists.{steps, every, rightPoint}
+use Rattle.enumerating.specs.Numbers.{numberOf, pointsAfter}
+use Rattle.enumerating.proofs.Numbers.{list-right}
 use Rattle.listing.specs.Statements.{NumberOfList, ListOfNumber}
-
--- the points that bits say rise
-points-right : (n a b k m : ℕ) → b ≤ a → n ≡ suc (a + k) → every (rightPoint n) (steps b (pointsAfter a k m)) ≡ true
-unfolding pointsAfter every steps
-points-right n a b zero m h e = refl
-points-right n a b (suc k) m h e =
-    go (eqb (m % 2) 1) (points-right n (suc a) (suc a) k (m / 2) (le-refl _) (omega arith)) (points-right n (suc a) b k (m / 2) (omega arith) (omega arith))
-  where
-    go : (x : Bool)
-        → every (rightPoint n) (steps (suc a) (pointsAfter (suc a) k (m / 2))) ≡ true
-        → every (rightPoint n) (steps b (pointsAfter (suc a) k (m / 2))) ≡ true
-        → every (rightPoint n) (steps b (cond x (suc a ∷ pointsAfter (suc a) k (m / 2)) (pointsAfter (suc a) k (m / 2)))) ≡ true
-    go true after same = rw (lt-ltb b (suc a) (omega arith), lt-ltb (suc a) n (omega arith)) after
-    go false after same = same
-
--- the list of a number is well formed, whatever its higher bits
-pub list-right : (n m : ℕ) → 0 < n → wellFormed n (listOf n m) ≡ true
-list-right n m h = points-right n 0 0 (n - 1) m (le-refl 0) (omega arith)
 
 -- the number of the points that the k bits of a number below 2 ^ k say
 points-number : (a k m : ℕ) → m < 2 ^ k → numberOf (pointsAfter a k m) ≡ 2 ^ a * m

@@ -4,8 +4,8 @@ use Rattle.model.specs.Sets.{listed, countBelow}
 use Rattle.model.specs.Lines.{bypasses, lineOf, onLine, lastRead, firstRead, anyRead, readsOf, preempterReads, blockAt, stateAfter, nextRead, useful, accessed, evicted}
 use Rattle.model.specs.Lists.{regions, every, total, lowestFrom}
 use Rattle.model.specs.Regions.{unionAfter, timeAfter, loaded, regionLines, switchTicks, regionCost, regionLength, armedAfter, regionFits}
-use Rattle.listing.specs.Numbers.{pointsAfter}
-use Rattle.listing.specs.Search.{nextNumber, entryOf}
+use Rattle.enumerating.specs.Numbers.{pointsAfter}
+use Rattle.enumerating.specs.Search.{nextNumber, entryOf}
 use Rattle.listing.specs.Statements.{Listed, SevenListed}
 
 pub seven-listed : SevenListed

@@ -15,11 +15,12 @@ use Rattle.model.specs.declared.Verdict.{Verdict}
 use Rattle.model.specs.declared.Verdict.the-variants.{Accepted, Refused}
 use Rattle.taskfile.specs.File.{taskOf}
 use Rattle.planner.specs.Calls.{PlanAnswer}
-use Rattle.listing.specs.Numbers.{numberOf, listOf}
-use Rattle.listing.specs.Calls.{listVerdict, nextIn, nextOf}
-use Rattle.listing.specs.declared.FittingList.{FittingList}
-use Rattle.listing.specs.declared.Found.{Found}
-use Rattle.listing.specs.declared.Found.the-variants.{NoMore, Fitting}
+use Rattle.enumerating.specs.Numbers.{numberOf, listOf}
+use Rattle.enumerating.specs.Search.{nextIn}
+use Rattle.listing.specs.Calls.{listVerdict, nextOf}
+use Rattle.enumerating.specs.declared.FittingList.{FittingList}
+use Rattle.enumerating.specs.declared.Found.{Found}
+use Rattle.enumerating.specs.declared.Found.the-variants.{NoMore, Fitting}
 
 -- the numbers below 2 ^ (n - 1) and the well-formed lists for n blocks determine each other: each list has such a number, which is its own alone
 abbrev pub NumberOfList : Type 0

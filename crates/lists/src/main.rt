@@ -1,12 +1,13 @@
-// Prints every fitting list of the task file on standard input, in the order of their numbers: the number and the cost of each; or the refusal.
+// Prints every fitting list of the task file on standard input, in the order of their numbers: the
+// number and the cost of each; or the refusal.
 ghost use mathlib.Core.Path.{_≡_};
 ghost use Prim.Native.Nat.{_≤_};
-ghost use Rattle.listing.specs.Weights.{Small};
+ghost use Rattle.enumerating.specs.Table.{Small};
 ghost use Rattle.listing.specs.Calls.{listVerdict};
-use listing::Found;
+use enumerating::Found;
 use model::Verdict;
 
-// A number, a space and a cost, behind what a page holds.
+// Appends a number, a space and a cost to what a page holds.
 fn collect_line(page: &mut [u8], held: usize, number: u64, cost: u64) -> usize {
     let numbered = desk::collect_number(page, held, number);
     let spaced = desk::collect(page, numbered, b" ");
@@ -22,7 +23,7 @@ fn print_all(fits: &[bool; 272], lines: &[u32; 272], costs: &[u64; 272], blocks:
     let mut held = 0;
     let mut start = 0;
     loop {
-        let found = listing::next_fitting(fits, lines, costs, blocks, start);
+        let found = enumerating::next_fitting(fits, lines, costs, blocks, start);
         let Found::Fitting(list) = found else {
             desk::print_page(&page, held);
             return;
@@ -38,7 +39,7 @@ fn print_lists(file: &[u8])
     let mut fits = [false; 272];
     let mut lines = [0u32; 272];
     let mut costs = [0u64; 272];
-    listing::weigh_regions(file, &mut fits, &mut lines, &mut costs);
+    enumerating::evaluate_regions(file, &mut fits, &mut lines, &mut costs);
     print_all(&fits, &lines, &costs, taskfile::block_count(file));
 }
 

@@ -12,8 +12,8 @@ use Rattle.model.specs.declared.Verdict.{Verdict}
 use Rattle.block.specs.Bytes.{les}
 use Rattle.planner.specs.Calls.{PlanAnswer, planCharges}
 use Rattle.tracing.specs.declared.Settings.{Settings}
-use Rattle.listing.specs.declared.Found.{Found}
-use Rattle.listing.specs.declared.Found.the-variants.{NoMore, Fitting}
+use Rattle.enumerating.specs.declared.Found.{Found}
+use Rattle.enumerating.specs.declared.Found.the-variants.{NoMore, Fitting}
 use Rattle.demand.specs.declared.Answer.{Answer}
 use Rattle.demand.specs.declared.Deadlines.{Deadlines}
 use Rattle.demand.specs.declared.Deadlines.the-variants.{Met, Missed}

@@ -21,8 +21,8 @@ ghost use Rattle.probe.specs.Calls.{probed, left, nextNumbers, PlanLeft,
 use demand::Answer;
 use demand::Deadlines;
 use demand::TaskRecord;
+use enumerating::Found;
 use lineset::LineSet;
-use listing::Found;
 use model::Next;
 use model::Verdict;
 use tracing::Settings;

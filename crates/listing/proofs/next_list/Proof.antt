@@ -6,7 +6,7 @@ use native.Mathlib.Omega.{arith}
 use lib.ListN.{length}
 use Rattle.model.specs.Task.{blockCount}
 use Rattle.taskfile.specs.File.{taskOf}
-use Rattle.listing.specs.Numbers.{listOf}
+use Rattle.enumerating.specs.Numbers.{listOf}
 use Rattle.listing.specs.Calls.{pointsFound, inArray}
 use Rattle.listing.proofs.Accepted.{is-accepted, short, positive, next-listed, next-refused}
 use borrow.Author.Needs.{needs}
@@ -33,8 +33,9 @@ returns c =
     let e = c .no-list .ensures in
     (e .0 ∙ check, (e .1 ∙ sym none, (rw none (e .2), rw none (e .3))))
 
-find-requires : tie.Need-find-requires
-find-requires c κs = sym (c .before .before .check .ensures) ∙ c .enum-told .given .1
+find-next-requires : tie.Need-find-next-requires
+find-next-requires c κs =
+    let listed = sym (c .before .before .check .ensures) ∙ c .enum-told .given .1 in (is-accepted _ listed, short _ listed)
 
 enum-known-found : tie.Need-enum-known-found
 enum-known-found c = search needs
@@ -51,7 +52,7 @@ returns-2 c =
     let check = c .before .before .before .before .before .before .check .ensures in
     let accepted = sym check ∙ c .before .before .before .before .enum-told .given .1 in
     let none =
-    next-listed (start .args .file .now) accepted (start .args .start) ∙ sym (c .before .before .before .find .ensures) ∙ c .before .enum-told3 .given .1 in
+    next-listed (start .args .file .now) accepted (start .args .start) ∙ sym (c .before .before .before .find-next .ensures) ∙ c .before .enum-told3 .given .1 in
     let e = c .no-list2 .ensures in
     (e .0 ∙ check, (e .1 ∙ sym none, (rw none (e .2), rw none (e .3))))
 
@@ -72,7 +73,7 @@ returns-3 c =
     let check = c .before .before .before .before .before .before .before .before .before .check .ensures in
     let accepted = sym check ∙ c .before .before .before .before .before .before .before .enum-told .given .1 in
     let found = c .before .before .before .before .found .given in
-    let is = next-listed file accepted (start .args .start) ∙ sym (c .before .before .before .before .before .before .find .ensures) ∙ found .1 in
+    let is = next-listed file accepted (start .args .start) ∙ sym (c .before .before .before .before .before .before .find-next .ensures) ∙ found .1 in
     let points = c .before .points-of .ensures in
     let all = ap (λ (n : ℕ). listOf n (found .0 .0 .number)) (c .before .before .block-count .ensures .0) ∙ ap (pointsFound (blockCount (taskOf file))) (sym is) in
     (check, (sym is, (points .0 ∙ ap length all, points .1 ∙ ap inArray all)))
@@ -86,7 +87,7 @@ next-list-spec =
     enum-told-2
     no-list-requires
     returns
-    find-requires
+    find-next-requires
     enum-known-found
     enum-told-3
     no-list-requires-2

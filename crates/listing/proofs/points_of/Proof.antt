@@ -8,9 +8,9 @@ use native.Mathlib.Numerals.{add-one, lt-add-one}
 use native.Mathlib.Omega.{arith}
 use lib.ListN.{length, take, drop, set, replicate, length-set, length-take, take-append-drop}
 use lib.Seq.{take-suc-set, drop-set-lt, drop-drop}
-use Rattle.listing.specs.Numbers.{listOf}
+use Rattle.enumerating.specs.Numbers.{listOf}
 use Rattle.listing.specs.Calls.{inArray}
-use Rattle.listing.proofs.Walks.{left, point-left, none-left, end-left}
+use Rattle.enumerating.proofs.Walks.{left, point-left, none-left, end-left}
 use Rattle.listing.proofs.points_of.Statement.{statement}
 use Rattle.listing.proofs.points_of.Tie as tie
 

@@ -6,7 +6,7 @@ use native.Mathlib.Omega.{arith}
 use lib.ListN.{length}
 use lib.Pow.{pow-mono}
 use borrow.Author.Needs.{needs}
-use Rattle.listing.proofs.Searching.{found-between}
+use Rattle.enumerating.proofs.Searching.{found-between}
 use Rattle.lists.proofs.print_all.Statement.{statement}
 use Rattle.lists.proofs.print_all.Tie as tie
 

@@ -1,13 +1,13 @@
--- `listing::if_fitting` meets its contract. The loop's invariant: the regions so far and the points that are left make the whole list.
--- Assumes nothing.
+-- `enumerating::if_fitting` meets its contract. The loop's invariant: the regions so far and the
+-- points that are left make the whole list. Assumes nothing.
 use Prim.Native.Nat.{_+_, _-_, _*_, _≤_}
 use mathlib.Core.Path.{sym, _∙_}
 use native.Mathlib.Omega.{arith}
 use mathlib.Core.Logic.{⊎-elim}
-use Rattle.listing.specs.Weights.{fitIn, numberIn}
-use Rattle.listing.proofs.Walks.{Walked, walked-start, walked-point, walked-none, walked-end, walked-is, if-fits, if-above}
-use Rattle.listing.proofs.if_fitting.Statement.{statement}
-use Rattle.listing.proofs.if_fitting.Tie as tie
+use Rattle.enumerating.specs.Table.{fitIn, numberIn}
+use Rattle.enumerating.proofs.Walks.{Walked, walked-start, walked-point, walked-none, walked-end, walked-is, if-fits, if-above}
+use Rattle.enumerating.proofs.if_fitting.Statement.{statement}
+use Rattle.enumerating.proofs.if_fitting.Tie as tie
 
 abbrev Inv-loop : tie.InvT-loop
 Inv-loop fits lines costs blocks number walk₀ rest₀ to₀ walk rest to =

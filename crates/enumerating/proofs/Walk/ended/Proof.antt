@@ -1,11 +1,11 @@
--- `listing::Walk::ended` meets its contract: the sums are small enough for their widths.
+-- `enumerating::Walk::ended` meets its contract: the sums are small enough for their widths.
 -- Assumes nothing.
 use Prim.Native.Nat.{_+_, _*_}
 use mathlib.Core.Path.{refl}
 use native.Mathlib.Omega.{arith}
 use borrow.Author.Needs.{needs}
-use Rattle.listing.proofs.Walk.ended.Statement.{statement}
-use Rattle.listing.proofs.Walk.ended.Tie as tie
+use Rattle.enumerating.proofs.Walk.ended.Statement.{statement}
+use Rattle.enumerating.proofs.Walk.ended.Tie as tie
 
 mul-at : tie.Need-mul-at
 mul-at c = search needs

@@ -1,13 +1,16 @@
--- The search for the next fitting list, over any fit, lines and cost of a region; n is the number of blocks. Assumes nothing.
+-- The search for the next fitting list (document 02, item 12), over any fit, lines and cost of a
+-- region; n is the number of blocks. Assumes nothing.
 use Prim.Native.Nat.{ℕ, _-_, _^_}
 use mathlib.Core.Bool.{Bool, cond, not}
+use Rattle.model.specs.Task.{Task, blockCount}
 use Rattle.model.specs.Lists.{lowestFrom, listFits, listCost}
+use Rattle.model.specs.Regions.{regionLines, regionFits, regionCost}
 use Rattle.model.specs.declared.Place.{Place}
 use Rattle.model.specs.declared.Place.the-variants.{Nowhere, At}
-use Rattle.listing.specs.Numbers.{listOf}
-use Rattle.listing.specs.declared.FittingList.{FittingList}
-use Rattle.listing.specs.declared.Found.{Found}
-use Rattle.listing.specs.declared.Found.the-variants.{NoMore, Fitting}
+use Rattle.enumerating.specs.Numbers.{listOf}
+use Rattle.enumerating.specs.declared.FittingList.{FittingList}
+use Rattle.enumerating.specs.declared.Found.{Found}
+use Rattle.enumerating.specs.declared.Found.the-variants.{NoMore, Fitting}
 
 -- the list of number m does not fit
 abbrev pub passedOver : (ℕ → ℕ → Bool) → ℕ → ℕ → Bool
@@ -29,6 +32,10 @@ foundAt entry (At m) = Fitting (entry m)
 -- the next fitting list
 abbrev pub nextFound : (ℕ → ℕ → Bool) → (lines cost : ℕ → ℕ → ℕ) → ℕ → ℕ → Found
 nextFound fit lines cost n start = foundAt (entryOf lines cost n) (nextNumber fit n start)
+
+-- the next fitting list of a task
+abbrev pub nextIn : Task → ℕ → Found
+nextIn t start = nextFound (regionFits t) (regionLines t) (regionCost t) (blockCount t) start
 
 -- the list of number m if it fits
 abbrev pub ifFitting : (ℕ → ℕ → Bool) → (lines cost : ℕ → ℕ → ℕ) → ℕ → ℕ → Found

@@ -1,5 +1,5 @@
--- `listing::next_fitting` meets its contract. The loop's invariant: from the number that is reached on the search finds what it finds from its start.
--- Assumes nothing.
+-- `enumerating::next_fitting` meets its contract. The loop's invariant: from the number that is
+-- reached on the search finds what it finds from its start. Assumes nothing.
 use Prim.Native.Nat.{_-_, _^_}
 use mathlib.Core.Path.{_≡_, sym, _∙_}
 use native.Mathlib.Nat.{one-mul}
@@ -7,10 +7,10 @@ use native.Mathlib.Omega.{arith}
 use lib.Dec.{lit<}
 use lib.Pow.{shl-exact}
 use borrow.Author.Needs.{needs}
-use Rattle.listing.specs.Weights.{fitIn, numberIn}
-use Rattle.listing.proofs.Searching.{Reached, reached-start, reached-next, reached-list, reached-end}
-use Rattle.listing.proofs.next_fitting.Statement.{statement}
-use Rattle.listing.proofs.next_fitting.Tie as tie
+use Rattle.enumerating.specs.Table.{fitIn, numberIn}
+use Rattle.enumerating.proofs.Searching.{Reached, reached-start, reached-next, reached-list, reached-end}
+use Rattle.enumerating.proofs.next_fitting.Statement.{statement}
+use Rattle.enumerating.proofs.next_fitting.Tie as tie
 
 abbrev Inv-loop : tie.InvT-loop
 Inv-loop fits lines costs blocks start end number₀ number = (end ≡ 2 ^ (blocks - 1)) × Reached (fitIn fits) blocks start number

@@ -1,20 +1,20 @@
--- `listing::weigh_row` meets its contract. The loop's invariant: the region is that from edge a, and the arrays hold those up to its end.
--- Assumes nothing.
+-- `enumerating::evaluate_row` meets its contract. The loop's invariant: the region starts at edge
+-- a, and the arrays hold the regions up to its end. Assumes nothing.
 use Prim.Native.Nat.{suc, _+_, _-_, _*_, _≤_, _<_}
 use mathlib.Core.Path.{_≡_, _∙_}
 use native.Mathlib.Omega.{arith}
 use borrow.Author.Needs.{needs}
 use Rattle.taskfile.specs.File.{taskOf}
 use Rattle.regions.specs.Measures.{Counted}
-use Rattle.listing.specs.Weights.{WeightsBefore}
-use Rattle.listing.proofs.Filling.{weights-same, weights-more}
-use Rattle.listing.proofs.weigh_row.Statement.{statement}
-use Rattle.listing.proofs.weigh_row.Tie as tie
+use Rattle.enumerating.specs.Table.{TableBefore}
+use Rattle.enumerating.proofs.Filling.{table-same, table-more}
+use Rattle.enumerating.proofs.evaluate_row.Statement.{statement}
+use Rattle.enumerating.proofs.evaluate_row.Tie as tie
 
 abbrev Inv-loop : tie.InvT-loop
 Inv-loop file counts fits₀ lines₀ costs₀ a n header region₀ fits lines costs region =
     let t = taskOf file in
-    Counted t region × (region .from ≡ a) × (region .to ≤ n) × WeightsBefore (suc (17 * a + region .to)) t fits lines costs
+    Counted t region × (region .from ≡ a) × (region .to ≤ n) × TableBefore (suc (17 * a + region .to)) t fits lines costs
 
 abbrev μ-loop : tie.MeasureT-loop
 μ-loop file counts fits₀ lines₀ costs₀ a n header region₀ fits lines costs region = n - region .to
@@ -36,7 +36,7 @@ loop-holds c =
       at .0 (taskOf (start .args .file .now)) (c .before .header .ensures .0) (omega (arith, start .pre .0 .2)),
       at .1,
       omega arith,
-      rw (at .2) (weights-same (λ x y h l k. omega (arith, few)) (start .pre .1)),
+      rw (at .2) (table-same few (omega arith) (λ x y h l k. omega (arith, few)) (start .pre .1)),
     )
 
 longer-requires : tie.Need-longer-requires Inv-loop μ-loop
@@ -96,7 +96,7 @@ loop-again c =
       grown .0,
       grown .1 ∙ l .inv .1,
       omega (arith, grown .2),
-      weights-more a b (omega (arith, grown .2, l .inv .0 .rising, l .inv .1)) (grown .0 .within) (start .pre .0 .1) _ _ _ (rw from at (weighs .fits t header-is (grown .0)))
+      table-more (start .pre .0 .1) a b (omega (arith, grown .2, l .inv .0 .rising, l .inv .1)) (grown .0 .within) _ _ _ (rw from at (weighs .fits t header-is (grown .0)))
           (rw from at (grown .0 .lines)) (rw from at (weighs .cost t header-is (grown .0))) (grown .0 .few) (weighs .small) (rw back at (l .inv .3)),
     )
 
@@ -105,10 +105,10 @@ returns c =
     let l = c .before .before .loop in
     let start = c .before .before .before .before .before .before .before in
     let few = start .pre .0 .1 in
-    weights-same (λ x y h k m. omega (arith, few)) (l .inv .3)
+    table-same few (omega (arith, few)) (λ x y h k m. omega (arith, few)) (l .inv .3)
 
-pub weigh-row-spec : {M : Type 1} → statement M
-weigh-row-spec =
+pub evaluate-row-spec : {M : Type 1} → statement M
+evaluate-row-spec =
     tie.close
     (tie.spec
     Inv-loop

@@ -1,5 +1,5 @@
--- The search looks at one number after the other. What it is to find is kept as what is to be found from the number that it has reached.
--- Assumes nothing.
+-- The search looks at one number after the other. What it is to find is kept as what is to be found
+-- from the number that it has reached. Assumes nothing.
 use Prim.Native.Nat.{ℕ, zero, suc, _+_, _-_, _^_, _≤_, _<_}
 use mathlib.Core.Path.{_≡_, refl, sym, ap, _∙_}
 use mathlib.Core.Bool.{Bool, true, false, cond, not}
@@ -10,10 +10,10 @@ use Rattle.model.specs.Lists.{lowestFrom, listFits}
 use Rattle.model.specs.declared.Place.{Place}
 use Rattle.model.specs.declared.Place.the-variants.{Nowhere, At}
 use Rattle.model.proofs.Lowest.{lowest-within, scan-next, scan-here, scan-end}
-use Rattle.listing.specs.Numbers.{listOf}
-use Rattle.listing.specs.Search.{passedOver, nextNumber, entryOf, foundAt, nextFound, ifFitting}
-use Rattle.listing.specs.declared.FittingList.{FittingList}
-use Rattle.listing.specs.declared.Found.the-variants.{NoMore, Fitting}
+use Rattle.enumerating.specs.Numbers.{listOf}
+use Rattle.enumerating.specs.Search.{passedOver, nextNumber, entryOf, foundAt, nextFound, ifFitting}
+use Rattle.enumerating.specs.declared.FittingList.{FittingList}
+use Rattle.enumerating.specs.declared.Found.the-variants.{NoMore, Fitting}
 
 -- what the lowest number that is not passed over is
 pub record LowestFound (f : ℕ → Bool) (a k : ℕ) : Type 0 where

@@ -1,4 +1,5 @@
--- A walk along the bits of a number: what the regions so far and the points that are left make of the whole list. Assumes nothing.
+-- A walk along the bits of a number: what the regions so far and the points that are left make of
+-- the whole list. Assumes nothing.
 use Prim.Native.Nat.{ℕ, suc, _+_, _-_, _*_, _/_, _%_, _^_, _≤_, _<_}
 use mathlib.Core.Path.{_≡_, refl, sym, ap, ap₂, _∙_, fun-ext}
 use mathlib.Core.Bool.{Bool, true, false, not, _&&_, and-assoc, and-true, and-eq-true-iff}
@@ -10,12 +11,12 @@ use borrow.Author.Tests.{eq-eqb, ne-eqb, ltb-true}
 use Rattle.model.specs.Task.{Task, blockCount}
 use Rattle.model.specs.Lists.{steps, regions, every, total, rightPoint, lowestFrom, listFits, listCost}
 use Rattle.model.specs.Regions.{regionLines, regionFits, regionCost}
-use Rattle.listing.specs.Numbers.{pointsAfter, listOf}
-use Rattle.listing.specs.Search.{nextNumber, entryOf, foundAt, nextFound, ifFitting}
-use Rattle.listing.specs.Weights.{fitIn, numberIn, Weights}
-use Rattle.listing.specs.Calls.{nextIn}
-use Rattle.listing.specs.declared.Found.the-variants.{NoMore, Fitting}
-use Rattle.listing.proofs.Numbers.{list-right}
+use Rattle.enumerating.specs.Numbers.{pointsAfter, listOf}
+use Rattle.enumerating.specs.Search.{nextNumber, entryOf, foundAt, nextFound, nextIn, ifFitting}
+use Rattle.enumerating.specs.Table.{fitIn, numberIn, RegionTable}
+use Rattle.enumerating.specs.declared.Found.the-variants.{NoMore, Fitting}
+use Rattle.enumerating.proofs.Numbers.{list-right}
+use Rattle.enumerating.proofs.Filling.{held}
 
 -- the points from edge to on, where the bits before it are passed
 abbrev pub left : ℕ → ℕ → ℕ → List ℕ
@@ -134,7 +135,7 @@ same-total f g n a (p ∷ ps) same h w =
     (same-total f g n p ps same (ltb-true p n (right .1)) (both .1))
 
 -- so the arrays lead to what the task's own fits and sums lead to
-pub same-next : (t : Task) (fits : List Bool) (lines costs : List ℕ) (start : ℕ) → 0 < blockCount t → blockCount t ≤ 16 → Weights t fits lines costs
+pub same-next : (t : Task) (fits : List Bool) (lines costs : List ℕ) (start : ℕ) → 0 < blockCount t → blockCount t ≤ 16 → RegionTable t fits lines costs
     → nextFound (fitIn fits) (numberIn lines) (numberIn costs) (blockCount t) start ≡ nextIn t start
 unfolding nextNumber entryOf
 same-next t fits lines costs start positive few w =
@@ -143,17 +144,14 @@ same-next t fits lines costs start positive few w =
     (fun-ext (λ m. λ i. record { number = m; lines = sums (numberIn lines) (regionLines t) line m i; cost = sums (numberIn costs) (regionCost t) cost m i }))
     (ap (λ (f : ℕ → Bool). lowestFrom f start (2 ^ (n - 1) - start)) (fun-ext (λ m. ap not (same-every (fitIn fits) (regionFits t) n 0 (listOf n m) fit positive (list-right n m positive)))))
   where
-    inside : (a b : ℕ) → a < b → b ≤ blockCount t → 17 * a + b < 272
-    inside a b h l = omega arith
-
     fit : (a b : ℕ) → a < b → b ≤ blockCount t → fitIn fits a b ≡ regionFits t a b
-    fit a b h l = w .fit a b h l (inside a b h l)
+    fit = held false (regionFits t) (blockCount t) few fits (w .fit)
 
     line : (a b : ℕ) → a < b → b ≤ blockCount t → numberIn lines a b ≡ regionLines t a b
-    line a b h l = w .line a b h l (inside a b h l)
+    line = held 0 (regionLines t) (blockCount t) few lines (w .line)
 
     cost : (a b : ℕ) → a < b → b ≤ blockCount t → numberIn costs a b ≡ regionCost t a b
-    cost a b h l = w .cost a b h l (inside a b h l)
+    cost = held 0 (regionCost t) (blockCount t) few costs (w .cost)
 
     sums : (f g : ℕ → ℕ → ℕ) → ((a b : ℕ) → a < b → b ≤ blockCount t → f a b ≡ g a b) → (m : ℕ)
         → listCost f (blockCount t) (listOf (blockCount t) m) ≡ listCost g (blockCount t) (listOf (blockCount t) m)

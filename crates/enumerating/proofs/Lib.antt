@@ -1,0 +1,4 @@
+pub mod Numbers
+pub mod Filling
+pub mod Walks
+pub mod Searching

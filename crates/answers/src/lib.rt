@@ -1,9 +1,11 @@
-// What the answers of a call come to: a refusal's number and place, the first of two verdicts and whose it is, and the refusal of an output's length.
+// The answers of a call: a refusal's number and place, the first of two verdicts and whose it is,
+// and the refusal of an output's length.
 ghost use mathlib.Core.Path.{_≡_};
-ghost use Prim.Native.Nat.{_<_, _^_};
-ghost use Rattle.model.specs.Answers.{number, place, verdictNumber, verdictPlace, placeOf, andThen, outputRow};
+ghost use Prim.Native.Nat.{min, _+_, _-_, _^_};
+ghost use Rattle.model.specs.Answers.{number, place, verdictNumber, verdictPlace, andThen, outputRow};
 ghost use Rattle.model.specs.Answers as Answers;
 ghost use Rattle.model.specs.Planning.{noPlan};
+ghost use Rattle.answers.specs.Places.{placeAnswered};
 use model::Input;
 use model::Plan;
 use model::Refusal;
@@ -11,6 +13,9 @@ use model::Verdict;
 
 // The blocks of the largest file.
 const MOST_BLOCKS: usize = 97;
+
+// The largest number of 64 bits.
+const LARGEST: usize = 18446744073709551615;
 
 // A refusal's number: 1 to 9 of document 01, 10 to 16 of document 02. 17, for the text of a task, is
 // ours and in no document.
@@ -108,15 +113,25 @@ pub fn verdict_place(verdict: Verdict) -> usize
 
 // The place of a verdict of one of two inputs, for the calls that answer it beside the verdict.
 pub fn place_of(input: Input, verdict: Verdict) -> usize
-    requires { ⌜ placeOf input verdict < 2 ^ 64 ⌝ }
-    ensures { λ r. ⌜ r ≡ placeOf input verdict ⌝ }
+    ensures { λ r. ⌜ r ≡ placeAnswered input verdict ⌝ }
 {
     match input {
         Input::First => verdict_place(verdict),
         Input::Second => match verdict {
             Verdict::Accepted => 0,
-            Verdict::Refused(refusal) => refusal_place(refusal) + MOST_BLOCKS,
+            Verdict::Refused(refusal) => after_first(refusal_place(refusal)),
         },
+    }
+}
+
+// A place of the second input: 97 more, and at most the largest number.
+fn after_first(place: usize) -> usize
+    ensures { λ r. ⌜ r ≡ min (place + 97) (2 ^ 64 - 1) ⌝ }
+{
+    if place < LARGEST - MOST_BLOCKS {
+        place + MOST_BLOCKS
+    } else {
+        LARGEST
     }
 }
 

@@ -1,6 +1,6 @@
--- The places of a join's refusals are at most 97, so that 97 can be added to those of the second file.
+-- The places of a join's refusals are at most 97, so the place that is answered is the exact one.
 -- Assumes nothing.
-use Prim.Native.Nat.{ℕ, _^_, _<_, _≤_}
+use Prim.Native.Nat.{ℕ, _≤_}
 use mathlib.Core.Path.{_≡_}
 use mathlib.Core.List.{List}
 use native.Mathlib.Omega.{arith}
@@ -12,6 +12,8 @@ use Rattle.model.specs.declared.Input.{Input}
 use Rattle.model.specs.declared.Refusal.the-variants.{Output, Mismatch, TooManyBlocks}
 use Rattle.model.specs.declared.Verdict.{Verdict}
 use Rattle.model.proofs.Places.{then-most, test-most, of-most}
+use Rattle.answers.specs.Places.{placeAnswered}
+use Rattle.answers.proofs.Places.{place-answered}
 use Rattle.taskfile.specs.File.{taskOf, verdict}
 use Rattle.taskfile.proofs.Places.{verdict-most}
 use Rattle.writer.specs.Writing.{fileSize}
@@ -31,7 +33,7 @@ join-most first second out =
     (λ c. then-most (totalsRow n m) _ mostBlocks (test-most (countsFit n m) TooManyBlocks mostBlocks (omega arith))
     (λ d. test-most (eqb (length out) (fileSize n m)) Output mostBlocks (omega arith)))))
 
-pub place-fits : (i : Input) (v : Verdict) (first second out : List ℕ) → v ≡ joinVerdict first second out → placeOf i v < 2 ^ 64
-place-fits i v first second out e =
+pub place-is : (i : Input) (v : Verdict) (first second out : List ℕ) → v ≡ joinVerdict first second out → placeAnswered i v ≡ placeOf i v
+place-is i v first second out e =
     let small : verdictPlace v ≤ mostBlocks = rw e (join-most first second out) in
-    omega (arith, of-most i v)
+    place-answered i v (omega (arith, of-most i v))

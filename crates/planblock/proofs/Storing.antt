@@ -1,17 +1,22 @@
 -- What storing a plan leaves, part by part.
 -- Assumes nothing.
-use Prim.Native.Nat.{ℕ, _+_, _*_, _≤_}
+use Prim.Native.Nat.{ℕ, _+_, _*_, _<_, _≤_}
 use mathlib.Core.Path.{_≡_, refl}
+use mathlib.Core.Bool.{and-false}
 use mathlib.Core.List.{List, [], _++_, append-nil}
 use native.Mathlib.Omega.{arith}
 use lib.ListN.{length, take, drop, length-append}
 use lib.Seq.{length-take-le}
+use borrow.Author.Tests.{eq-eqb, ne-eqb, le-leb, lt-leb}
 use Rattle.model.specs.declared.Plan.{Plan}
+use Rattle.model.specs.declared.Verdict.the-variants.{Accepted}
 use Rattle.block.specs.Bytes.{le, les, packed}
 use Rattle.block.specs.Blocks.{numbered}
 use Rattle.block.proofs.Bytes.{length-les}
 use Rattle.block.proofs.Storing.{Stored, stored-none, stored-first, stored-number}
-use Rattle.planblock.specs.Plans.{planNumbers, planNamed}
+use Rattle.planvalue.specs.Values.{planVerdict}
+use Rattle.planvalue.proofs.Verdicts.{count-accepted}
+use Rattle.planblock.specs.Plans.{planNumbers, planNamed, planBytes, put}
 
 -- what `put_head` stores; each list is the buffer after one store more
 pub head-stored : (p : Plan) (out kind blocks count lines cost id : List ℕ) → kind ≡ [] ++ le 2 4 ++ drop 2 out
@@ -46,3 +51,21 @@ pub body-stored : (p : Plan) (head points new : List ℕ) → take 20 head ≡ p
     → take 508 new ≡ numbered 0 (take (20 + 2 * p .count) points) → take 508 new ≡ numbered 0 (planNamed p)
 unfolding planNamed
 body-stored p head points new p₁ p₂ p₃ = rw (p₃, p₂, p₁)
+
+-- what `put_plan` leaves
+
+pub put-fits : (p : Plan) (out : List ℕ) → length out ≡ 512 → p .count ≤ 63 → put p out ≡ planBytes p
+unfolding put
+put-fits p out l h = rw (eq-eqb (length out) 512 l, le-leb (p .count) 63 h)
+
+pub put-longer : (p : Plan) (out : List ℕ) → (length out ≡ 512 → ⊥) → put p out ≡ out
+unfolding put
+put-longer p out l = rw (ne-eqb (length out) 512 l)
+
+pub put-many : (p : Plan) (out : List ℕ) → 63 < p .count → put p out ≡ out
+unfolding put
+put-many p out h = rw (lt-leb (p .count) 63 h, and-false)
+
+-- an accepted plan is stored
+pub put-accepted : (p : Plan) (out : List ℕ) → length out ≡ 512 → planVerdict p ≡ Accepted → put p out ≡ planBytes p
+put-accepted p out l e = put-fits p out l (count-accepted p e)

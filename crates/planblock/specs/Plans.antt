@@ -4,7 +4,7 @@ use Prim.Native.Nat.{ℕ, _-_, _^_, _<_}
 use mathlib.Core.Path.{_≡_}
 use mathlib.Core.Bool.{Bool, cond, _&&_}
 use mathlib.Core.List.{List, [], _∷_, _++_}
-use lib.Dec.{eqb}
+use lib.Dec.{eqb, leb}
 use lib.ListN.{length, getD, take, replicate}
 use Rattle.model.specs.Answers.{accepted, onAccepted, andThen, outputRow}
 use Rattle.model.specs.declared.Plan.{Plan}
@@ -49,6 +49,11 @@ readVerdict bs =
     cond (eqb (length bs) 512)
     (cond (checksumRight bs) (cond (planRight bs) Accepted (Refused (WrongBlock 0))) (Refused (Checksum 0)))
     (Refused Length)
+
+-- a buffer after a plan is stored in it without a check of N and the points: it stays what it was
+-- where it is not of 512 bytes or the count is above 63
+unfoldable pub put : Plan → List ℕ → List ℕ
+put p out = cond (eqb (length out) 512 && leb (p .count) 63) (planBytes p) out
 
 -- what storing a plan into a lent buffer answers: 9 first
 unfoldable pub storeVerdict : Plan → List ℕ → Verdict

@@ -8,7 +8,7 @@ ghost use Rattle.model.specs.Planning.{noPlan};
 ghost use Rattle.block.specs.Bytes.{packed, les, field, fields};
 ghost use Rattle.block.specs.Blocks.{numbered};
 ghost use Rattle.planvalue.specs.Values.{planVerdict};
-ghost use Rattle.planblock.specs.Plans.{planNumbers, planNamed, planBytes, planOf, planRight, readVerdict, storeVerdict, stored};
+ghost use Rattle.planblock.specs.Plans.{planNumbers, planNamed, planBytes, planOf, planRight, put, readVerdict, storeVerdict, stored};
 use model::Plan;
 use model::Refusal;
 use model::Verdict;
@@ -67,14 +67,26 @@ fn put_checksum(plan: Plan, out: &mut [u8])
     block::seal(out);
 }
 
-// Stores a plan's 512 bytes, without a check of the plan: `store` has one.
-pub fn put_plan(plan: Plan, out: &mut [u8])
+// Stores a plan's 512 bytes.
+fn put_block(plan: Plan, out: &mut [u8])
     requires { ⌜ length (now out) ≡ 512 ⌝ }
     requires { ⌜ plan .count ≤ 63 ⌝ }
     ensures { λ _. ⌜ now (out .exit) ≡ planBytes plan ⌝ }
 {
     put_body(plan, out);
     put_checksum(plan, out);
+}
+
+// Stores a plan where the buffer has 512 bytes and the count is at most 63. Otherwise the buffer
+// stays what it was. N and the points aren't checked: `store` does that.
+pub fn put_plan(plan: Plan, out: &mut [u8])
+    ensures { λ _. ⌜ now (out .exit) ≡ put plan (now (out .entry)) ⌝ }
+{
+    if out.len() == 512 {
+        if plan.count <= 63 {
+            put_block(plan, out);
+        }
+    }
 }
 
 // Stores a plan where it was accepted.
@@ -84,7 +96,7 @@ fn put_accepted(verdict: Verdict, plan: Plan, out: &mut [u8])
     ensures { λ _. ⌜ now (out .exit) ≡ onAccepted verdict (planBytes plan) (now (out .entry)) ⌝ }
 {
     match verdict {
-        Verdict::Accepted => put_plan(plan, out),
+        Verdict::Accepted => put_block(plan, out),
         Verdict::Refused(_) => {}
     }
 }

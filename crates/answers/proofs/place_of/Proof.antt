@@ -1,5 +1,6 @@
 -- `answers::place_of` meets its contract, by the two inputs.
 -- Assumes nothing.
+use mathlib.Core.Path.{refl, _∙_}
 use native.Mathlib.Omega.{arith}
 use borrow.Author.Needs.{needs}
 use Rattle.answers.proofs.place_of.Statement.{statement}
@@ -23,22 +24,19 @@ enum-known-verdict c = search needs
 refusal-place-requires : tie.Need-refusal-place-requires
 refusal-place-requires c κs = search needs
 
-add-result : tie.Need-add-result
-add-result c =
-    let known = c .before .before in
-    let second = known .before .before in
-    omega (arith, rw (second .enum-told2 .given .1, known .verdict .given .1) at (second .before .before .pre))
+after-first-requires : tie.Need-after-first-requires
+after-first-requires c κs = search needs
 
 returns : tie.Need-returns
-returns c = search needs
+returns c = rw (c .before .enum-told .given .1) (omega (arith, c .verdict-place .ensures))
 
 returns-2 : tie.Need-returns-2
-returns-2 c = search needs
+returns-2 c = rw (c .before .before .enum-told2 .given .1, c .enum-told3 .given .1) refl
 
 returns-3 : tie.Need-returns-3
 returns-3 c =
-    let known = c .before .before in
-    rw (known .before .before .enum-told2 .given .1, known .verdict .given .1, c .refusal-place .ensures)
+    let known = c .before .before .before in
+    c .after-first .ensures ∙ rw (known .before .before .enum-told2 .given .1, known .verdict .given .1, c .before .refusal-place .ensures)
 
 pub place-of-spec : {M : Type 1} → statement M
 place-of-spec =
@@ -50,7 +48,7 @@ place-of-spec =
     enum-told-3
     enum-known-verdict
     refusal-place-requires
-    add-result
+    after-first-requires
     returns
     returns-2
     returns-3)

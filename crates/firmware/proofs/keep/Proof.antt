@@ -1,8 +1,8 @@
 -- `firmware::keep` meets its contract: an accepted plan is stored in the whole block, and else nothing is.
 -- Assumes nothing.
-use mathlib.Core.Path.{_≡_}
+use mathlib.Core.Path.{_≡_, _∙_}
 use Rattle.model.specs.declared.Verdict.the-variants.{Accepted}
-use Rattle.planvalue.proofs.Verdicts.{count-accepted}
+use Rattle.planblock.proofs.Storing.{put-accepted}
 use borrow.Author.Needs.{needs}
 use Rattle.firmware.proofs.keep.Statement.{statement}
 use Rattle.firmware.proofs.keep.Tie as tie
@@ -11,9 +11,7 @@ enum-told : tie.Need-enum-told
 enum-told c = search needs
 
 put-plan-requires : tie.Need-put-plan-requires
-put-plan-requires c κs =
-    let start = c .before .before .before .before in
-    (start .pre .0, count-accepted (start .args .plan) (start .pre .1 (c .before .enum-told .given .1)))
+put-plan-requires c κs = search needs
 
 enum-told-2 : tie.Need-enum-told-2
 enum-told-2 c = search needs
@@ -25,7 +23,8 @@ returns : tie.Need-returns
 returns c =
     let told = c .before .before .before .before in
     let accepted : told .before .before .before .args .verdict ≡ Accepted = told .enum-told .given .1 in
-    rw accepted (c .before .before .put-plan .ensures)
+    let start = told .before .before .before in
+    rw accepted (c .before .before .put-plan .ensures ∙ put-accepted (start .args .plan) (start .args .block .now) (start .pre .0) (start .pre .1 accepted))
 
 returns-2 : tie.Need-returns-2
 returns-2 c = search needs

@@ -7,7 +7,7 @@ use Rattle.model.specs.declared.Verdict.the-variants.{Accepted}
 use Rattle.model.proofs.Verdicts.{both-accepted, before-refused}
 use Rattle.taskfile.specs.File.{taskOf, verdict}
 use Rattle.joining.specs.Calls.{joinRows, joinVerdict, joinInput, joinPlace, joinLeft}
-use Rattle.joining.proofs.Places.{place-fits}
+use Rattle.joining.proofs.Places.{place-is}
 use borrow.Author.Needs.{needs}
 use Rattle.joining.proofs.join.Statement.{statement}
 use Rattle.joining.proofs.join.Tie as tie
@@ -65,7 +65,7 @@ enum-told-2 : tie.Need-enum-told-2
 enum-told-2 c = search needs
 
 place-of-requires : tie.Need-place-of-requires
-place-of-requires c κs = place-fits (c .before .before .before .whose .result) _ _ _ _ (refused c)
+place-of-requires c κs = search needs
 
 returns : tie.Need-returns
 unfolding joinPlace joinLeft
@@ -73,15 +73,13 @@ returns c =
     let told = c .before in
     let answer = refused told in
     let input = checks (told .before .before) .1 in
-    (answer, (c .place-of .ensures ∙ ap₂ placeOf input answer, rw (← answer, told .enum-told2 .given .1) refl))
+    (answer, (c .place-of .ensures ∙ place-is (told .before .before .before .whose .result) _ _ _ _ answer ∙ ap₂ placeOf input answer, rw (← answer, told .enum-told2 .given .1) refl))
 
 join-accepted-requires : tie.Need-join-accepted-requires
 join-accepted-requires c κs = accepted (c .before)
 
 place-of-requires-2 : tie.Need-place-of-requires-2
-place-of-requires-2 c κs =
-    let made = c .before .before in
-    place-fits (made .before .before .before .before .before .whose .result) _ _ _ _ (joined made)
+place-of-requires-2 c κs = search needs
 
 same-length : tie.Need-same-length
 same-length c = search needs
@@ -92,7 +90,7 @@ returns-2 c =
     let made = c .before .before .before in
     let answer = joined made in
     let input = checks (made .before .before .before .before) .1 in
-    (answer, (c .place-of2 .ensures ∙ ap₂ placeOf input answer, rw (← answer) (made .join-accepted .ensures .1)))
+    (answer, (c .place-of2 .ensures ∙ place-is (made .before .before .before .before .before .whose .result) _ _ _ _ answer ∙ ap₂ placeOf input answer, rw (← answer) (made .join-accepted .ensures .1)))
 
 pub join-spec : {M : Type 1} → statement M
 join-spec =

@@ -9,8 +9,8 @@ use Rattle.planblock.proofs.put_accepted.Tie as tie
 enum-told : tie.Need-enum-told
 enum-told c = search needs
 
-put-plan-requires : tie.Need-put-plan-requires
-put-plan-requires c κs =
+put-block-requires : tie.Need-put-block-requires
+put-block-requires c κs =
     let start = c .before .before .before .before in
     (search needs, count-accepted (start .args .plan) (sym (start .pre .1) ∙ c .before .enum-told .given .1))
 
@@ -23,11 +23,11 @@ same-length c = search needs
 returns : tie.Need-returns
 returns c =
     let told = c .before .before .before .before in
-    rw (told .enum-told .given .1) (c .before .before .put-plan .ensures)
+    rw (told .enum-told .given .1) (c .before .before .put-block .ensures)
 
 returns-2 : tie.Need-returns-2
 returns-2 c = search needs
 
 pub put-accepted-spec : {M : Type 1} → statement M
 put-accepted-spec =
-    tie.close (tie.spec enum-told put-plan-requires enum-told-2 same-length returns returns-2)
+    tie.close (tie.spec enum-told put-block-requires enum-told-2 same-length returns returns-2)

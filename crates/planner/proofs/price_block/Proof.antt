@@ -7,6 +7,8 @@ use Rattle.model.specs.Answers.{andThen, whose, placeOf, verdictPlace, mostBloc
 use Rattle.model.specs.Planning.{chosen}
 use Rattle.model.proofs.Verdicts.{both-accepted, before-refused}
 use Rattle.model.proofs.Places.{then-most, of-most}
+use Rattle.answers.specs.Places.{placeAnswered}
+use Rattle.answers.proofs.Places.{place-answered}
 use Rattle.taskfile.specs.File.{verdict, taskOf}
 use Rattle.taskfile.proofs.Places.{verdict-most}
 use Rattle.planvalue.proofs.Verdicts.{count-accepted}
@@ -41,13 +43,17 @@ enum-told-2 c = search needs
 whose-requires : tie.Need-whose-requires
 whose-requires c κs = search needs
 
-place-of-requires : tie.Need-place-of-requires
-place-of-requires c κs =
+-- the place is small enough to be handed out as it is
+small : (c : tie.After-whose) → placeAnswered (c .whose .result) (c .before .before .before .earlier .result) ≡ placeOf (c .whose .result) (c .before .before .before .earlier .result)
+small c =
     let earlier = c .before .before .before in
     let args = earlier .before .before .before .before .before .args in
     let most = then-most (verdict (args .file .now)) (readVerdict (args .block .now)) mostBlocks (verdict-most (args .file .now)) (λ a. omega (arith, read-place (args .block .now))) in
-    let small : verdictPlace (earlier .earlier .result) ≤ mostBlocks = rw (checks earlier) most in
-    omega (arith, of-most (c .whose .result) (earlier .earlier .result))
+    let few : verdictPlace (earlier .earlier .result) ≤ mostBlocks = rw (checks earlier) most in
+    place-answered (c .whose .result) (earlier .earlier .result) (omega (arith, of-most (c .whose .result) (earlier .earlier .result)))
+
+place-of-requires : tie.Need-place-of-requires
+place-of-requires c κs = search needs
 
 no-block-price-requires : tie.Need-no-block-price-requires
 no-block-price-requires c κs = search needs
@@ -65,7 +71,7 @@ returns c =
     let refused = told .enum-told2 .given .1 in
     let later = before-refused (verdict file) (readVerdict block) (pricing (taskOf file) (chosen (planOf block))) _ (sym (checks earlier) ∙ refused) in
     let input = whose-is .whose .ensures ∙ ap₂ whose (earlier .before .before .check .ensures) (earlier .before .read .ensures .0) in
-    rw later (answers .0 ∙ refused, (answers .1 ∙ c .before .place-of .ensures ∙ ap₂ placeOf input refused, answers .2))
+    rw later (answers .0 ∙ refused, (answers .1 ∙ c .before .place-of .ensures ∙ small whose-is ∙ ap₂ placeOf input refused, answers .2))
 
 price-points-requires : tie.Need-price-points-requires
 price-points-requires c κs =

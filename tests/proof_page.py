@@ -9,7 +9,7 @@ from trace import stands
 
 os.chdir(os.path.join(os.path.dirname(os.path.abspath(__file__)), ".."))
 PAGE = open("docs/PROOF.md", encoding="utf-8").read()
-PRINTING = {"desk", "drawing", "report"}
+PRINTING = {"desk", "report"}
 faults = []
 
 

@@ -9,6 +9,9 @@ ghost use Rattle.model.specs.Lists.{wrongPoint};
 ghost use Rattle.model.specs.Planning.{chosen};
 ghost use Rattle.taskfile.specs.File.{IsAccepted, taskOf};
 ghost use Rattle.pricing.specs.Prices.{Loads};
+
+mod drawing;
+
 use model::Header;
 use model::Place;
 use model::Plan;

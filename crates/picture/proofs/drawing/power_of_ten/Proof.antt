@@ -1,8 +1,9 @@
--- `drawing::power_of_ten` meets its contract: the next power is taken where it is no more than the ticks. Assumes nothing.
+-- `picture::drawing::power_of_ten` meets its contract: the next power is taken where it is at most
+-- the ticks. Assumes nothing.
 use Prim.Native.Nat.{_-_, _≤_, max}
 use native.Mathlib.Omega.{arith}
-use Rattle.drawing.proofs.power_of_ten.Statement.{statement}
-use Rattle.drawing.proofs.power_of_ten.Tie as tie
+use Rattle.picture.proofs.drawing.power_of_ten.Statement.{statement}
+use Rattle.picture.proofs.drawing.power_of_ten.Tie as tie
 
 abbrev Inv-loop : tie.InvT-loop
 Inv-loop ticks power₀ power = (1 ≤ power) × (power ≤ max ticks 1)

@@ -1,11 +1,12 @@
--- `drawing::collect_ticks` is safe and ends: each tick is a step further, and the page stays as long as it is. Assumes nothing.
+-- `picture::drawing::collect_ticks` is safe and ends: each tick is a step further, and the page's
+-- length stays. Assumes nothing.
 use Prim.Native.Nat.{_+_, _-_, _≤_}
 use mathlib.Core.Path.{_≡_}
 use native.Mathlib.Omega.{arith}
 use lib.ListN.{length}
 use borrow.Author.Needs.{needs}
-use Rattle.drawing.proofs.collect_ticks.Statement.{statement}
-use Rattle.drawing.proofs.collect_ticks.Tie as tie
+use Rattle.picture.proofs.drawing.collect_ticks.Statement.{statement}
+use Rattle.picture.proofs.drawing.collect_ticks.Tie as tie
 
 abbrev Inv-loop : tie.InvT-loop
 Inv-loop page₀ held last step span bottom held₀ tick₀ page held' tick = (tick ≤ last + step) × (length page ≡ length page₀)

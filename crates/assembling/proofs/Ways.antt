@@ -1,26 +1,23 @@
 -- The two ways: a text becomes the file of the task that it says, and the text of a file's task says that task.
 -- Assumes nothing.
 use Prim.Native.Nat.{ℕ}
-use mathlib.Core.Path.{_≡_, refl, sym, ap, _∙_}
-use mathlib.Core.List.{List, _++_}
-use native.Mathlib.Omega.{arith}
-use lib.ListN.{length, take, drop}
+use mathlib.Core.Path.{_≡_, refl, sym, _∙_}
+use mathlib.Core.List.{List}
+use lib.ListN.{length, take}
 use lib.Seq.{take-at}
-use Rattle.model.specs.Task.{Task}
 use Rattle.model.specs.Answers.{outputRow, refusedAt}
 use Rattle.model.specs.declared.Place.{Place}
 use Rattle.model.specs.declared.Place.the-variants.{Nowhere, At}
 use Rattle.model.specs.declared.Refusal.the-variants.{WrongText}
 use Rattle.model.specs.declared.Verdict.the-variants.{Accepted}
 use Rattle.model.proofs.Verdicts.{both-accepted, never-both, output-accepts}
-use Rattle.taskfile.specs.File.{IsAccepted, verdict, taskOf, fileOf, Within}
+use Rattle.taskfile.specs.File.{IsAccepted, verdict, taskOf, fileOf}
 use Rattle.taskfile.proofs.Files.{task-then-file, accepted-within}
 use Rattle.taskfile.proofs.Tasks.{file-then-task}
-use Rattle.showing.specs.Text.{textOf}
-use Rattle.showing.specs.Calls.{shownText, roomRow, showVerdict, showAnswer, showOutput}
+use Rattle.showing.specs.Calls.{shownText, showVerdict, showAnswer, showOutput}
 use Rattle.assembling.specs.Drafts.{draftIn, taskFrom, wrongIn, taskIn}
 use Rattle.assembling.specs.Calls.{assembleVerdict, assembleAnswer, assembleOutput}
-use Rattle.assembling.specs.Statements.{TextSaysTask, ShownAssembles, AssembledAccepted, OneFile}
+use Rattle.assembling.specs.Statements.{TextSaysTask, ShownAssembles, AssembledAccepted}
 use Rattle.assembling.proofs.Limits.{text-drafted, within-drafted}
 use Rattle.assembling.proofs.Closing.{assemble-accepted, text-accepted}
 use Rattle.assembling.proofs.Round.{text-known, text-right}
@@ -34,12 +31,6 @@ front : (text out : List ℕ) → assembleVerdict text out ≡ Accepted → take
 front text out e =
     let a = assemble-accepted text out e in
     rw (a .0, a .1) (take-at (fileOf (taskIn text)) _ (length (fileOf (taskIn text))) refl)
-
-pub one-file : OneFile
-one-file text other out e f same =
-    let a = assemble-accepted text out e in
-    let b = assemble-accepted other out f in
-    (a .0 ∙ rw same (sym (b .0)), a .1 ∙ rw same (sym (b .1)))
 
 no-wrong-line : (text out : List ℕ) → assembleVerdict text out ≡ Accepted → wrongIn text ≡ Nowhere
 unfolding assembleVerdict

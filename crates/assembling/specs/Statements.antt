@@ -29,9 +29,3 @@ AssembledAccepted =
     (text out : List ℕ) → assembleVerdict text out ≡ Accepted
     → let file = take (assembleAnswer text out .length) (assembleOutput text out) in
     IsAccepted file × (taskOf file ≡ taskIn text)
-
--- two texts of one task give the same file
-abbrev pub OneFile : Type 0
-OneFile =
-    (text other out : List ℕ) → assembleVerdict text out ≡ Accepted → assembleVerdict other out ≡ Accepted → taskIn text ≡ taskIn other
-    → (assembleAnswer text out ≡ assembleAnswer other out) × (assembleOutput text out ≡ assembleOutput other out)

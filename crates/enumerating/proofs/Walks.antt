@@ -1,5 +1,5 @@
--- A walk along the bits of a number: what the regions so far and the points that are left make of
--- the whole list. Assumes nothing.
+-- A walk along the bits of a number: the regions so far and the remaining points make the whole
+-- list. Fits and sums that agree on regions agree on lists. Assumes nothing.
 use Prim.Native.Nat.{ℕ, suc, _+_, _-_, _*_, _/_, _%_, _^_, _≤_, _<_}
 use mathlib.Core.Path.{_≡_, refl, sym, ap, ap₂, _∙_, fun-ext}
 use mathlib.Core.Bool.{Bool, true, false, not, _&&_, and-assoc, and-true, and-eq-true-iff}
@@ -102,7 +102,7 @@ module _ (fit : ℕ → ℕ → Bool) (lines costs : ℕ → ℕ → ℕ) (n m :
           w .cost-sum ∙ rw (end, add-zero),
         )
 
-  -- so much for a list that fits, and for one that does not
+  -- what is found of a list that fits, and of one that does not
   module _ {whole : Bool} (fits : listFits fit n (listOf n m) ≡ whole) where
     pub if-fits : {line cost : ℕ} → listCost lines n (listOf n m) ≡ line → listCost costs n (listOf n m) ≡ cost → whole ≡ true
         → Fitting (record { number = m; lines = line; cost = cost }) ≡ ifFitting fit lines costs n m

@@ -1,5 +1,5 @@
 -- `enumerating::if_fitting` meets its contract. The loop's invariant: the regions so far and the
--- points that are left make the whole list. Assumes nothing.
+-- remaining points make the whole list. Assumes nothing.
 use Prim.Native.Nat.{_+_, _-_, _*_, _≤_}
 use mathlib.Core.Path.{sym, _∙_}
 use native.Mathlib.Omega.{arith}

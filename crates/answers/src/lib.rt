@@ -17,8 +17,8 @@ const MOST_BLOCKS: usize = 97;
 // The largest number of 64 bits.
 const LARGEST: usize = 18446744073709551615;
 
-// A refusal's number: 1 to 9 of document 01, 10 to 16 of document 02. 17, for the text of a task, is
-// ours and in no document.
+// A refusal's number: 1 to 9 of document 01, 10 to 16 of document 02. 17, for the text of a task,
+// is ours and in no document.
 pub fn refusal_number(refusal: Refusal) -> u32
     ensures { λ r. ⌜ r ≡ number refusal ⌝ }
 {

@@ -141,7 +141,8 @@ module _ (t : Task) (h : Lines) where
     unfolding firstRead
     first-more c = ap (firstRead (onLine t c)) (one-more t i j m hi hj is a ha) ∙ first-append (onLine t c) (readsSince t a (edge t i + j)) (m ∷ [])
 
-    -- it lies on this line, or on none: the region loads the line if it is of h and holds m since a block up to the region's edge
+    -- it lies on this line, or on none: the region loads the line if it is of h and m was read on
+    -- it last, in a block up to the region's edge
     pub loaded-more : {held : ℕ → Line} {since : ℕ → ℕ} (line : ℕ) (on : Bool) → line < 512 → LiesOn t m line on → History t (edge t i + j) held since
         → loadedBy t h a (suc (edge t i + j)) ≡ loadedBy t h a (edge t i + j) + bit (h line && on && sameBlock (held line) (Held m) && leb (since line) a)
     unfolding loadedBy stateAfter

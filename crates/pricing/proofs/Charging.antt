@@ -1,5 +1,6 @@
--- The charges of the walk that counts a list's lines: what each preempter was charged for the regions before, and for the reads so far of the
--- region that the walk is in. A preempter's lines are a part of H, and a read that loads its line adds one to the charge of the line's first
+-- The charges of the walk that counts a list's lines: what each preempter was charged for the
+-- regions before, and for the reads so far of the region that the walk is in. A preempter's lines
+-- are a part of H, and a read that loads its line adds one to the charge of the line's first
 -- preempter alone. Assumes nothing.
 use Prim.Native.Nat.{ℕ, suc, _+_, _*_, _%_, _≤_, _<_}
 use mathlib.Core.Path.{_≡_, refl, sym, _∙_}

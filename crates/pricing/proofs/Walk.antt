@@ -1,6 +1,6 @@
--- The walk that counts a list's lines: what it knows of the lines, at its start, after the next read
--- and in a new region; and what is counted as it passes the edges, of the regions before and of the
--- one that it is in. Assumes nothing.
+-- The walk that counts a list's lines: what it knows of the lines, at its start, after the next
+-- read and in a new region; and what is counted as it passes the edges, of the regions before and
+-- of the one that it is in. Assumes nothing.
 use Prim.Native.Nat.{ℕ, suc, _+_, _≤_, _<_}
 use mathlib.Core.Path.{_≡_, refl, sym, _∙_}
 use mathlib.Core.Bool.{Bool, true, false, cond, _&&_}

@@ -28,6 +28,6 @@ pub record Loads (t : Task) (ps counts : List ℕ) : Type 0 where
   pub long : length counts ≡ 64
   pub loads : (i : ℕ) → i ≤ length ps → getD counts i 0 ≡ regionLines t (getD (0 ∷ ps) i (blockCount t)) (getD ps i (blockCount t))
 
--- the entries past the regions of the list ps have not changed
+-- the entries past the regions of the list ps stay as they were
 abbrev pub RestStays : (ps before after : List ℕ) → Type 0
 RestStays ps before after = (i : ℕ) → length ps < i → getD after i 0 ≡ getD before i 0

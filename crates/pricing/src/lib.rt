@@ -122,11 +122,10 @@ pub fn count_lines(file: &[u8], points: &[u16], lines: &mut [u32; 64])
 }
 
 // The same walk with charges: each line's mark is the first preempter that touches it, and a read
-// that loads the line adds one to that preempter's charge. The charges are lent with zeros everywhere.
+// that loads the line adds one to that preempter's charge. The charges are lent as zeros.
 fn charge_lines(file: &[u8], points: &[u16], lines: &mut [u32; 64], charges: &mut [u32; 32])
     requires { ⌜ IsAccepted (now file) × (wrongPoint (blockCount (taskOf (now file))) (now points) ≡ Place.Nowhere) × (length (now lines) ≡ 64) × (now charges ≡ noCharges) ⌝ }
-    ensures { λ _. ⌜ Loads (taskOf (now (file .entry))) (now (points .entry)) (now (lines .exit)) ⌝ }
-    ensures { λ _. ⌜ now (charges .exit) ≡ Charges.charges (taskOf (now (file .entry))) (now (points .entry)) ⌝ }
+    ensures { λ _. ⌜ Loads (taskOf (now (file .entry))) (now (points .entry)) (now (lines .exit)) × (now (charges .exit) ≡ Charges.charges (taskOf (now (file .entry))) (now (points .entry))) ⌝ }
 {
     let cache = cacheline::geometry_of(file);
     let blocks = taskfile::block_count(file);

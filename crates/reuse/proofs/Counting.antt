@@ -78,7 +78,7 @@ looked b false = ap bit (sym (and-false b))
 -- read j of block i + 1, of number m
 module _ (t : Task) (i j m : ℕ) (hi : i < blockCount t) (hj : j < length (blockAt t i .reads)) (is : getD (blockAt t i .reads) j 0 ≡ m)
     {held : List Line} {since counts : List ℕ} (w : Counting t i (edge t i + j) held since counts) where
-  -- it lies on this line, or on none: x is counted at the column of the block that read the line last
+  -- it lies on this line, or on none: x is counted at the column of the line's last reader
   module _ (line x : ℕ) (on : Bool) (hl : line < 512) (at : LiesOn t m line on) (few-blocks : blockCount t ≤ 64)
       (counted : x ≡ bit (evicted t line && on && sameBlock (getD held line Empty) (Held m))) (one : x ≤ 1) where
     abbrev column : ℕ

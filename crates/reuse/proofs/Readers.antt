@@ -48,7 +48,8 @@ module _ (t : Task) (c : ℕ) where
   passes k h off =
       sym (ap (firstRead (onLine t c)) (reads-from t k h) ∙ first-append (onLine t c) (blockAt t k .reads) (readsOf (drop (suc k) (t .blocks))) ∙ rw off refl)
 
-  -- a search from the edge before that block finds what a search from edge k finds, if there is such a block or no block is left
+  -- a search from the edge before that block finds what a search from edge k finds, if there is
+  -- such a block or no block is left
   reader-next : (k n : ℕ) → k + n ≤ blockCount t → (firstReader t k n c ≡ 0 → k + n ≡ blockCount t)
       → nextRead t (edgeBefore (blockCount t) (firstReader t k n c)) c ≡ nextRead t k c
   unfolding firstReader edgeBefore

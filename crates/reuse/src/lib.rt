@@ -68,8 +68,8 @@ fn search_from(file: &[u8], cache: Geometry, k: usize, c: usize) -> Search
     }
 }
 
-// The first read of line c in block k of the file. Two reads are looked at in each turn: that halves
-// the turns.
+// The first read of line c in block k of the file. Each turn looks at two reads, which halves the
+// turns.
 fn search_block(file: &[u8], cache: Geometry, k: usize, c: usize) -> Search
     requires { ⌜ IsAccepted (now file) × (1 ≤ k) × (k ≤ counts (now file) .blocks + counts (now file) .preempters) ⌝ }
     requires { ⌜ GeometryOf (taskOf (now file)) cache ⌝ }
@@ -502,9 +502,9 @@ pub fn count_new_lines(file: &[u8], counts: &mut [u8; 4096])
     sum_rows(counts, taskfile::block_count(file));
 }
 
-// One walk over the reads: what each line holds, and the block, from 0, that read it last. A read of
-// the number that a line of H holds is counted in the row of its own block, at the column of that
-// block. With a scratch range each value is chosen; without one it is stored as it is.
+// One walk over the reads: what each line holds, and the block, from 0, that read it last. A read
+// of the number that a line of H holds is counted in the row of its own block, at the column of
+// that block. With a scratch range each new entry is chosen; without one it is stored as it is.
 fn count_rereads(file: &[u8], cache: Geometry, evicted: &[bool; 512], counts: &mut [u8; 4096])
     requires { ⌜ IsAccepted (now file) × GeometryOf (taskOf (now file)) cache ⌝ }
     requires { ⌜ (length (now evicted) ≡ 512) × ((d : ℕ) → getD (now evicted) d false ≡ Lines.evicted (taskOf (now file)) d) ⌝ }

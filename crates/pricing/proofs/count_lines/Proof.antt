@@ -1,5 +1,5 @@
--- `pricing::count_lines` meets its contract. Both loops keep what the lines hold and since when, and
--- the regions counted. Without a scratch range each read is cached. Assumes nothing.
+-- `pricing::count_lines` meets its contract. Both loops keep what the lines hold and since when,
+-- and the regions counted. Without a scratch range each read is cached. Assumes nothing.
 use Prim.Native.Nat.{suc, _+_, _-_, _≤_, _<_}
 use mathlib.Core.Path.{_≡_, refl, sym, ap, ap₂, _∙_}
 use mathlib.Core.Bool.{cond}

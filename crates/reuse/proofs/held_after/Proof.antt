@@ -14,7 +14,6 @@ use Rattle.model.specs.Task.{blockCount}
 use Rattle.model.specs.Lines.{blockAt, readsOf, stateAfter}
 use Rattle.model.specs.declared.Line.the-variants.{Empty}
 use Rattle.model.proofs.Histories.{Holds, lies-cached, lies-uncached, holds-none, holds-more}
-use Rattle.model.proofs.LineStates.{lies-on}
 use Rattle.model.proofs.ReadOrder.{edge, edge-suc, take-edge}
 use Rattle.taskfile.specs.File.{taskOf}
 use Rattle.taskfile.proofs.Accepted as accepted-file

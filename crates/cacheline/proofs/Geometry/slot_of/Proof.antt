@@ -1,7 +1,7 @@
 -- `cacheline::Geometry::slot_of` meets its contract: a memory block lies on the line of its
 -- remainder, unless it bypasses the cache. Assumes nothing.
 use Prim.Native.Nat.{ℕ, _%_}
-use mathlib.Core.Path.{refl, sym, ap, _∙_}
+use mathlib.Core.Path.{refl, ap, _∙_}
 use mathlib.Core.Bool.{not}
 use borrow.Author.Needs.{needs}
 use Rattle.cacheline.proofs.Below.{both-tests}

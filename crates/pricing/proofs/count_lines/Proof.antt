@@ -208,7 +208,7 @@ loop2-again c =
           (λ w. rw (w .1) (more (Held (number .result)) _ (rw (all-cached t (number .result) (slot .result) of (sym (all .ensures t (cache .ensures)) ∙ w .0 .taken)) refl) read-now))
           (λ w. rw (w .2) (more _ _ (w .1 .ensures) read-now))
           (c .if2 .came),
-      ap₂ _+_ (inner .inv .2) (c .before .before .before .loads .ensures .0 ∙ rw (marks .ensures .1 line, add-one) refl) ∙
+      ap₂ _+_ (inner .inv .2) (c .before .before .before .loads .ensures .0 ∙ rw (marks .ensures .1 line, ← (add-one (joined .if1 .region))) refl) ∙
           sym (known-loads t (outer .i) (inner .j) (number .result) inside counted number-is inside-region (inner .inv .1) line (slot .result .cached) (slot .ensures .1) (of .lies) (evicted t)),
     )
 

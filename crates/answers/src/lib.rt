@@ -1,5 +1,7 @@
 // The answers of a call: a refusal's number and place, the first of two verdicts and whose it is,
 // and the refusal of an output's length.
+#![tactic(auto)]
+
 ghost use Rattle.std.specs.Prelude.{◌≡◌, min, ◌+◌, ◌-◌, ◌^◌};
 ghost use Rattle.model.specs.Answers.{number, place, verdict_number, verdict_place, and_then, output_row};
 ghost use Rattle.model.specs.Answers as Answers;

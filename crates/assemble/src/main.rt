@@ -1,4 +1,6 @@
 // Writes the task file of the text on standard input to standard output; a refusal goes to standard error.
+#![tactic(auto)]
+
 ghost use Rattle.std.specs.Prelude.{◌≡◌, length};
 
 use model::Verdict;

@@ -1,4 +1,6 @@
 // The text of a task, that people write and read: a task file made of one, and one made of a task file.
+#![tactic(auto)]
+
 ghost use Rattle.std.specs.Prelude.{◌≡◌, true, List, ◌++◌, ℕ, ◌≤◌, ◌<◌, length, get_or, take, drop};
 ghost use Rattle.assembling.specs.Words.{is_blank, is_word_byte, is_line_byte, words_of};
 ghost use Rattle.assembling.specs.Drafts.{header_word, header_right, kind_of, room_for, takes_header, takes_entry};
@@ -15,14 +17,14 @@ use decimals::Decimal;
 use model::{Header, Place, Refusal, Scratch, Verdict};
 
 // A word of a line: its bytes from start up to end, none where there is no word.
-#[derive(Drop)]
+#[derive(Clone, Copy)]
 struct Word {
     start: usize,
     end: usize,
 }
 
 // What a line behind the header's says, by its word.
-#[derive(Drop)]
+#[derive(Clone, Copy)]
 enum Kind {
     Basic,
     Armed,
@@ -31,7 +33,7 @@ enum Kind {
 }
 
 // What is known of a text: so many of the header's numbers, in the order of the text, and so many blocks.
-#[derive(Drop)]
+#[derive(Clone, Copy)]
 struct Known {
     given: usize,
     header: [u32; 8],
@@ -120,7 +122,7 @@ fn number_of(word: &[u8]) -> Decimal
 }
 
 // The numbers of a line from a place on, in an array: how many there are, if all words are numbers and no more than there is room for.
-#[derive(Drop)]
+#[derive(Clone, Copy)]
 struct Numbers {
     right: bool,
     count: usize,
@@ -345,7 +347,7 @@ fn with_entry(file: &mut [u8], known: Known, kind: Kind, numbers: &[u32]) -> Kno
 }
 
 // What is known behind a line, if the text can go on with it.
-#[derive(Drop)]
+#[derive(Clone, Copy)]
 struct Taken {
     right: bool,
     known: Known,
@@ -438,7 +440,7 @@ fn take_line(file: &mut [u8], known: Known, line: &[u8]) -> Taken
 }
 
 // What a text says: its lowest wrong line, if any, and what is known behind its last.
-#[derive(Drop)]
+#[derive(Clone, Copy)]
 struct Outcome {
     place: Place,
     known: Known,
@@ -527,7 +529,7 @@ fn close(file: &mut [u8], known: Known) -> usize
 }
 
 // What a call answers: the length of what it leaves beside the verdict, 0 where it refuses.
-#[derive(Drop)]
+#[derive(Clone, Copy)]
 pub struct Made {
     pub verdict: Verdict,
     pub length: usize,

@@ -1,4 +1,6 @@
 // Numbers in bytes, their lowest byte first, and the frame of a block of 512 bytes.
+#![tactic(auto)]
+
 ghost use Rattle.std.specs.Prelude.{◌≡◌, ◌&&◌, ◌++◌, ◌+◌, ◌-◌, ◌*◌, ◌%◌, ◌≤◌, eqb, length, take, drop, replicate};
 ghost use Rattle.fnv.specs.Fnv.{fnv1a};
 ghost use Rattle.block.specs.Bytes.{le, les, field, zeros_between};

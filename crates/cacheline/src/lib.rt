@@ -1,4 +1,6 @@
 // The geometry of an accepted file's cache, and the line of a memory block in it.
+#![tactic(auto)]
+
 ghost use Rattle.std.specs.Prelude.{◌≡◌, ◌%◌, ◌≤◌, ◌<◌, eqb};
 ghost use Rattle.model.specs.Task.{Task};
 ghost use Rattle.model.specs.Lines.{line_of, on_line};
@@ -9,7 +11,7 @@ ghost use Rattle.cacheline.specs.Geometries.{Divides, Masks, PowerFor, Sound, Ge
 use model::Mapping;
 
 // Three numbers that divide by a count: the quotient of any 32-bit number is (number * factor + addend) >> shift.
-#[derive(Drop)]
+#[derive(Clone, Copy)]
 pub struct Divider {
     pub factor: u64,
     pub addend: u64,
@@ -18,7 +20,7 @@ pub struct Divider {
 
 // The number of lines, what divides by it, which spares a division for each read, and a mask in its place, 0 where there is none; and the memory blocks that bypass the cache, so many from
 // the first on.
-#[derive(Drop)]
+#[derive(Clone, Copy)]
 pub struct Geometry {
     pub line_count: u32,
     pub divider: Divider,
@@ -29,7 +31,7 @@ pub struct Geometry {
 
 // Where a memory block goes: its remainder by the line count, and whether it is cached there. A
 // memory block of the scratch range is not.
-#[derive(Drop)]
+#[derive(Clone, Copy)]
 pub struct Slot {
     pub line: usize,
     pub cached: bool,
@@ -95,7 +97,7 @@ fn mask_by(lines: u32, power: Power) -> u32
 }
 
 // A power of two.
-#[derive(Drop)]
+#[derive(Clone, Copy)]
 struct Power {
     value: u64,
     shift: u32,

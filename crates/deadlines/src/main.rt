@@ -1,5 +1,7 @@
 // Prints whether the tasks of a set meet their deadlines up to a horizon, which the argument gives, or the refusal. Standard input has a line for each
 // task: its execution time, period, deadline and longest region, decimal numbers with one space between.
+#![tactic(auto)]
+
 ghost use Rattle.std.specs.Prelude.{◌≤◌, length};
 
 use decimals::Decimal;
@@ -10,7 +12,7 @@ use model::Verdict;
 const TOO_LARGE: u32 = 16777216;
 
 // The set that a text gives, if all its lines have four numbers.
-#[derive(Drop)]
+#[derive(Clone, Copy)]
 struct TextRead {
     right: bool,
     set: TaskSet,

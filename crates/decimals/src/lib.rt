@@ -1,9 +1,11 @@
 // Numbers in decimal digits: what bytes say.
+#![tactic(auto)]
+
 ghost use Rattle.std.specs.Prelude.{◌≡◌, min};
 ghost use Rattle.decimals.specs.Decimals.{with_digit, decimal_of, capped_decimal};
 
 // What bytes say in decimal digits.
-#[derive(Drop)]
+#[derive(Clone, Copy)]
 pub enum Decimal {
     Number(u64),
     Nothing,

@@ -1,4 +1,6 @@
 // Whether the tasks of a set meet their deadlines: at no instant may what they demand and what blocks them be more than the time that has passed.
+#![tactic(auto)]
+
 ghost use Rattle.std.specs.Prelude.{true, cond, ◌≡◌, ◌+◌, ◌≤◌, ◌<◌, min, max, ltb, length, get_or, take};
 ghost use Rattle.demand.specs.Demand.{most_ticks, deadlines_of};
 ghost use Rattle.demand.specs.Calls.{most_tasks, in_range, right_task, right_set, answer, answer_of};
@@ -15,7 +17,7 @@ const LATEST: u32 = 0xffff_ffff;
 
 // A task of the set, in ticks: its execution time with reloads, its period, its deadline after a release, and its longest region.
 #[repr(C)]
-#[derive(Drop)]
+#[derive(Clone, Copy)]
 pub struct TaskRecord {
     pub execution: u32,
     pub period: u32,
@@ -24,28 +26,28 @@ pub struct TaskRecord {
 }
 
 // A set by value: how many tasks it has, 17 where they are more than 16, and the first 16 of them.
-#[derive(Drop)]
+#[derive(Clone, Copy)]
 pub struct TaskSet {
     pub count: usize,
     pub tasks: [TaskRecord; 16],
 }
 
 // Whether all deadlines are met, or the first time at which the total is more than the time.
-#[derive(Drop)]
+#[derive(Clone, Copy)]
 pub enum Deadlines {
     Met,
     Missed(u32),
 }
 
 // What the test answers.
-#[derive(Drop)]
+#[derive(Clone, Copy)]
 pub struct Answer {
     pub verdict: Verdict,
     pub deadlines: Deadlines,
 }
 
 // Each field of the tasks in an array of its own.
-#[derive(Drop)]
+#[derive(Clone, Copy)]
 struct Columns {
     executions: [u32; 16],
     periods: [u32; 16],
@@ -54,14 +56,14 @@ struct Columns {
 }
 
 // What an instant brings: the demand with the execution times that fall due there, and the next instant.
-#[derive(Drop)]
+#[derive(Clone, Copy)]
 struct Passed {
     demand: u32,
     next: u32,
 }
 
 // What blocks from a time on: a region, and the time up to which it stays.
-#[derive(Drop)]
+#[derive(Clone, Copy)]
 struct Blocked {
     region: u32,
     until: u32,

@@ -1,4 +1,6 @@
 // What the programs share: numbers and files that the arguments name, and the lines that are printed.
+#![tactic(auto)]
+
 ghost use Rattle.std.specs.Prelude.{◌≡◌, ◌+◌, ◌≤◌, length, take};
 ghost use Rattle.io.specs.Counts.{IsPrefixLen};
 ghost use Rattle.decimals.specs.Decimals.{AtMost};
@@ -9,7 +11,7 @@ use lineset::LineSet;
 use model::{Refusal, Verdict};
 
 // A file in a lent buffer: how many bytes it has, 0 where there is no such file.
-#[derive(Drop)]
+#[derive(Clone, Copy)]
 pub struct FileRead {
     pub found: bool,
     pub count: usize,

@@ -1,4 +1,6 @@
 // The next fitting list of an accepted file of at most 16 basic blocks, by tables of its regions.
+#![tactic(auto)]
+
 ghost use Rattle.std.specs.Prelude.{◌≡◌, false, ◌&&◌, ◌+◌, ◌*◌, ◌^◌, ◌≤◌, ◌<◌, replicate};
 ghost use Rattle.model.specs.Task.{block_count};
 ghost use Rattle.taskfile.specs.File.{IsAccepted, task_of};
@@ -9,7 +11,7 @@ ghost use Rattle.enumerating.specs.Table.{fit_in, number_in, Small, TableBefore,
 use regions::CountedRegion;
 
 // A fitting list: its number, its lines and its cost.
-#[derive(Drop)]
+#[derive(Clone, Copy)]
 pub struct FittingList {
     pub number: u64,
     pub lines: u32,
@@ -17,7 +19,7 @@ pub struct FittingList {
 }
 
 // What a search finds.
-#[derive(Drop)]
+#[derive(Clone, Copy)]
 pub enum Found {
     NoMore,
     Fitting(FittingList),
@@ -25,7 +27,7 @@ pub enum Found {
 
 // The regions of a list up to an edge: whether all fit, where the next region starts, their lines
 // and their cost.
-#[derive(Drop)]
+#[derive(Clone, Copy)]
 struct Walk {
     fits: bool,
     from: usize,

@@ -1,4 +1,6 @@
 // The firmware's C calls: planning and pricing on bytes, the plan in a lent block.
+#![tactic(auto)]
+
 ghost use Rattle.std.specs.Prelude.{◌≡◌, ◌<◌, length};
 ghost use Rattle.model.specs.Answers.{on_accepted};
 ghost use Rattle.planvalue.specs.Values.{plan_verdict};

@@ -1,4 +1,6 @@
 // 32-bit FNV-1a. Eight or sixteen zeros at once are one product, and most bytes of a block are zeros.
+#![tactic(auto)]
+
 ghost use Rattle.std.specs.Prelude.{◌≡◌, true, ◌+◌, ◌*◌, ◌%◌, ◌^◌, ◌<◌, ◌≤◌, length, replicate};
 ghost use Rattle.fnv.specs.Fnv.{step, hash_from, fnv1a};
 ghost use Rattle.fnv.specs.Steps.{ZeroIf, Reached, OneLength, HashedOn, AllReached};
@@ -90,7 +92,7 @@ fn mixed_word(state: u32, word: &[u8]) -> u32
 }
 
 // A hash that has come up to a place.
-#[derive(Drop)]
+#[derive(Clone, Copy)]
 struct Part {
     state: u32,
     at: usize,
@@ -156,7 +158,7 @@ pub fn hash(bytes: &[u8]) -> u32
 }
 
 // The hashes of four slices.
-#[derive(Drop)]
+#[derive(Clone, Copy)]
 pub struct FourHashes {
     pub a: u32,
     pub b: u32,
@@ -210,7 +212,7 @@ fn any_at(a: &[u8], b: &[u8], c: &[u8], d: &[u8], at: usize) -> u64
 }
 
 // Four hashes that have come up to a place.
-#[derive(Drop)]
+#[derive(Clone, Copy)]
 struct FourParts {
     states: FourHashes,
     at: usize,

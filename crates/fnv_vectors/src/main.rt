@@ -1,4 +1,6 @@
 // Published vectors of 32-bit FNV-1a: each text in quotes, and its hash in hexadecimal.
+#![tactic(auto)]
+
 use libc::STDOUT_FILENO;
 
 fn print_vector(text: &[u8]) {

@@ -1,4 +1,6 @@
 // Writes the task file of a seed, N, M, S, Q and R, which the arguments give, to standard output; a refusal goes to standard error.
+#![tactic(auto)]
+
 ghost use Rattle.std.specs.Prelude.{◌≤◌};
 
 use model::Verdict;

@@ -1,4 +1,6 @@
 // Writes the file that two task files join to, which the arguments name, to standard output; a refusal goes to standard error.
+#![tactic(auto)]
+
 ghost use Rattle.std.specs.Prelude.{◌≤◌};
 
 use model::Verdict;

@@ -1,4 +1,6 @@
 // Two task files joined into one: the basic blocks of the first and then of the second, and the preempters likewise.
+#![tactic(auto)]
+
 ghost use Rattle.std.specs.Prelude.{◌≡◌, ◌+◌, ◌*◌, length};
 ghost use Prim.Native.Nat as Nat;
 ghost use Rattle.model.specs.Answers.{on_accepted};
@@ -9,7 +11,7 @@ ghost use Rattle.joining.specs.Calls.{agree_row, totals_row, join_rows, join_ver
 use model::{Header, Refusal, Verdict};
 
 // The answer of a join, and the place of a refusal.
-#[derive(Drop)]
+#[derive(Clone, Copy)]
 pub struct Joined {
     pub verdict: Verdict,
     pub place: usize,

@@ -1,9 +1,11 @@
 // A set of cache lines in eight words of 64 bits, line 0 in the lowest bit of the first.
+#![tactic(auto)]
+
 ghost use Rattle.std.specs.Prelude.{false, cond, ◌&&◌, ◌||◌, ◌≡◌, ℕ, eqb, ltb};
 ghost use Rattle.model.specs.Sets.{size};
 ghost use Rattle.lineset.specs.Members.{members};
 
-#[derive(Drop)]
+#[derive(Clone, Copy)]
 pub struct LineSet {
     pub words: [u64; 8],
 }

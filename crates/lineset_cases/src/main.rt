@@ -1,4 +1,6 @@
 // Line sets by example, a mark for each question: is the line in the set, is the size as counted by hand.
+#![tactic(auto)]
+
 use libc::STDOUT_FILENO;
 use lineset::LineSet;
 

@@ -1,4 +1,6 @@
 // The fitting lists of a task of at most 16 basic blocks, in the order of their numbers.
+#![tactic(auto)]
+
 ghost use Rattle.std.specs.Prelude.{◌≡◌, [], ◌≤◌, length};
 ghost use Rattle.enumerating.specs.Numbers.{list_of};
 ghost use Rattle.listing.specs.Calls.{list_verdict, next_of, next_points, in_array};
@@ -10,14 +12,14 @@ use model::{Refusal, Verdict};
 const MOST_BLOCKS: usize = 16;
 
 // The points of a list; those beyond the count are zero.
-#[derive(Drop)]
+#[derive(Clone, Copy)]
 pub struct Points {
     pub count: usize,
     pub points: [u16; 16],
 }
 
 // The next fitting list, and its points; none on a refusal.
-#[derive(Drop)]
+#[derive(Clone, Copy)]
 pub struct NextList {
     pub verdict: Verdict,
     pub found: Found,

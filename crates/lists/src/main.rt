@@ -1,5 +1,7 @@
 // Prints every fitting list of the task file on standard input, in the order of their numbers: the
 // number and the cost of each; or the refusal.
+#![tactic(auto)]
+
 ghost use Rattle.std.specs.Prelude.{◌≡◌, ◌≤◌};
 ghost use Rattle.enumerating.specs.Table.{Small};
 ghost use Rattle.listing.specs.Calls.{list_verdict};

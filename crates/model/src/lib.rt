@@ -1,28 +1,29 @@
 // The types that the planner's answers and a task's header are made of. What they mean is in specs/.
+#![tactic(auto)]
 
 // One line of the cache: it is empty or holds one memory block.
-#[derive(Drop)]
+#[derive(Clone, Copy)]
 pub enum Line {
     Empty,
     Held(u32),
 }
 
 // Where a memory block lies: on a line of the cache, or on none.
-#[derive(Drop)]
+#[derive(Clone, Copy)]
 pub enum Mapping {
     Uncached,
     Cached(usize),
 }
 
 // The next read of a line: a memory block's number, or none.
-#[derive(Drop)]
+#[derive(Clone, Copy)]
 pub enum Next {
     Read(u32),
     Never,
 }
 
 // Why a call refuses, with the place that the refusal names.
-#[derive(Drop)]
+#[derive(Clone, Copy)]
 pub enum Refusal {
     Length,
     Checksum(usize),
@@ -44,28 +45,28 @@ pub enum Refusal {
 }
 
 // The lowest place at which something does not hold.
-#[derive(Drop)]
+#[derive(Clone, Copy)]
 pub enum Place {
     Nowhere,
     At(usize),
 }
 
 // Whether a call accepts what it is handed, or why not; an answer with a value has its verdict beside it.
-#[derive(Drop)]
+#[derive(Clone, Copy)]
 pub enum Verdict {
     Accepted,
     Refused(Refusal),
 }
 
 // Which of a call's two inputs a refusal is of.
-#[derive(Drop)]
+#[derive(Clone, Copy)]
 pub enum Input {
     First,
     Second,
 }
 
 // A plan, each field as wide as in a plan block; the points beyond the count are zero.
-#[derive(Drop)]
+#[derive(Clone, Copy)]
 pub struct Plan {
     pub blocks: u16,
     pub id: u32,
@@ -76,14 +77,14 @@ pub struct Plan {
 }
 
 // The memory blocks that bypass the cache: so many from the first on.
-#[derive(Drop)]
+#[derive(Clone, Copy)]
 pub struct Scratch {
     pub first: u32,
     pub count: u32,
 }
 
 // The numbers of a task file's header but N and M, each as wide as it stands there: S, Q, R, the task's id, the scratch range, Q2 and G.
-#[derive(Drop)]
+#[derive(Clone, Copy)]
 pub struct Header {
     pub line_count: u16,
     pub limit: u32,

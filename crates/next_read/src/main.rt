@@ -1,5 +1,7 @@
 // Looks for the next read of a line after a block, in the task file on standard input: its number and how many reads were looked at, or the
 // refusal.
+#![tactic(auto)]
+
 use model::{Next, Verdict};
 
 fn print_next(next: Next) {

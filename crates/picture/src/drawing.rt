@@ -20,7 +20,7 @@ const MOST_TICKS: u64 = 4398046511104;
 const MOST_ROWS: u64 = 64;
 
 // Where a part of a bar begins, and how wide it is.
-#[derive(Drop)]
+#[derive(Clone, Copy)]
 struct Extent {
     left: u64,
     width: u64,

@@ -1,5 +1,7 @@
 // Draws the plan of the task file on standard input, as an SVG picture: a bar for each region, of its blocks' times, its reloads and its switch, and the
 // limits; or the refusal in words.
+#![tactic(auto)]
+
 ghost use Rattle.std.specs.Prelude.{◌≡◌, ◌∷◌, ◌≤◌, ◌<◌, length, get_or};
 ghost use Rattle.model.specs.Task.{block_count};
 ghost use Rattle.model.specs.Lists.{wrong_point};
@@ -12,7 +14,7 @@ mod drawing;
 use model::{Header, Place, Plan, Refusal, Verdict};
 
 // A region of the plan: its edges, its length, and what of it are reloads and the switch.
-#[derive(Drop)]
+#[derive(Clone, Copy)]
 struct Region {
     from: usize,
     to: usize,

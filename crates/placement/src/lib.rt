@@ -1,5 +1,7 @@
 // The first least-cost choice of preemption points, an edge at a time from the last to the first. Of a region the caller says whether it fits, what
 // it costs, and a tally: a number that is added up along the list and that no choice depends on.
+#![tactic(auto)]
+
 ghost use Rattle.std.specs.Prelude.{◌≡◌, ◌^◌, ◌<◌, ◌≤◌};
 ghost use Rattle.placement.specs.Rows.{none, Tries, Rising, Followed};
 
@@ -7,7 +9,7 @@ ghost use Rattle.placement.specs.Rows.{none, Tries, Rising, Followed};
 pub const NONE: u64 = 18446744073709551615;
 
 // At an edge: the least cost from it to the end, or NONE; the next edge on the way; and the sum of the tallies on it, modulo 2^64.
-#[derive(Drop)]
+#[derive(Clone, Copy)]
 pub struct Choice {
     pub cost: u64,
     pub next: usize,
@@ -15,7 +17,7 @@ pub struct Choice {
 }
 
 // A list of points; those beyond the count are zero.
-#[derive(Drop)]
+#[derive(Clone, Copy)]
 pub struct Points {
     pub count: usize,
     pub points: [u16; 64],

@@ -1,5 +1,7 @@
 // The task of document 004's figure 2: six blocks with their times, the cost of each region, and a
 // limit of 12 on a region's time and cost together.
+#![tactic(auto)]
+
 ghost use Rattle.std.specs.Prelude.{◌<◌, ◌≤◌};
 ghost use Rattle.placement.specs.Rows.{Rising};
 

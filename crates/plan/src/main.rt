@@ -1,4 +1,6 @@
 // Plans the task file on standard input: the plan and its regions, or the refusal.
+#![tactic(auto)]
+
 ghost use Rattle.std.specs.Prelude.{◌≡◌};
 ghost use Rattle.model.specs.Task.{block_count};
 ghost use Rattle.model.specs.Lists.{wrong_point};

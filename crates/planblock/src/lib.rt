@@ -1,4 +1,6 @@
 // Plan blocks: a plan is stored in one block of 512 bytes, and read back.
+#![tactic(auto)]
+
 ghost use Rattle.std.specs.Prelude.{◌≡◌, ◌++◌, ◌+◌, ◌-◌, ◌*◌, ◌≤◌, length, take, replicate};
 ghost use Rattle.model.specs.Answers.{on_accepted};
 ghost use Rattle.model.specs.Planning.{no_plan};
@@ -10,7 +12,7 @@ ghost use Rattle.planblock.specs.Plans.{plan_numbers, plan_named, plan_bytes, pl
 use model::{Plan, Refusal, Verdict};
 
 // What reading answers: the plan is all zeros where the verdict is a refusal.
-#[derive(Drop)]
+#[derive(Clone, Copy)]
 pub struct PlanRead {
     pub verdict: Verdict,
     pub plan: Plan,

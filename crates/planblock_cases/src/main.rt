@@ -1,4 +1,6 @@
 // Plan blocks by example: what storing and reading answer, a line for each case.
+#![tactic(auto)]
+
 ghost use Rattle.std.specs.Prelude.{◌≡◌, ◌≤◌, ◌<◌};
 ghost use Rattle.planvalue.specs.Values.{plan_verdict};
 

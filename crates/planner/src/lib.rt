@@ -1,4 +1,6 @@
 // The planner's calls. Each takes any bytes and numbers, and answers a value or a refusal.
+#![tactic(auto)]
+
 ghost use Rattle.std.specs.Prelude.{◌≡◌};
 ghost use Rattle.model.specs.Answers.{on_accepted};
 ghost use Rattle.model.specs.Planning.{no_plan};
@@ -13,14 +15,14 @@ use planning::FilePlan;
 use pricing::ChargedPrice;
 
 // The useful lines at an edge.
-#[derive(Drop)]
+#[derive(Clone, Copy)]
 pub struct UsefulLines {
     pub verdict: Verdict,
     pub lines: LineSet,
 }
 
 // The next read of a line, and how many reads were looked at to find it.
-#[derive(Drop)]
+#[derive(Clone, Copy)]
 pub struct NextRead {
     pub verdict: Verdict,
     pub next: Next,
@@ -28,7 +30,7 @@ pub struct NextRead {
 }
 
 // A region's loaded lines and its length.
-#[derive(Drop)]
+#[derive(Clone, Copy)]
 pub struct RegionLines {
     pub verdict: Verdict,
     pub loaded: LineSet,
@@ -36,7 +38,7 @@ pub struct RegionLines {
 }
 
 // The plan of the points of a plan block, and the place of a refusal: the file is the first input, the block the second.
-#[derive(Drop)]
+#[derive(Clone, Copy)]
 pub struct BlockPrice {
     pub verdict: Verdict,
     pub place: usize,
@@ -44,7 +46,7 @@ pub struct BlockPrice {
 }
 
 // A plan of a file, and what each preempter is charged of its lines, from 0.
-#[derive(Drop)]
+#[derive(Clone, Copy)]
 pub struct ChargedPlan {
     pub verdict: Verdict,
     pub plan: Plan,

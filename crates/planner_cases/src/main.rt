@@ -1,5 +1,7 @@
 // What the planner's calls answer of each task file that the arguments name: its plan, and for a task of at most four blocks the useful
 // lines of each edge, the loaded lines and length of each region, and the price of some lists with each preempter's charge.
+#![tactic(auto)]
+
 ghost use Rattle.std.specs.Prelude.{◌≤◌};
 
 use lineset::LineSet;

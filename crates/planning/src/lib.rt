@@ -1,4 +1,6 @@
 // The plan of an accepted file: that of given points, or the first of least cost.
+#![tactic(auto)]
+
 ghost use Rattle.std.specs.Prelude.{◌≡◌, drop, replicate, ◌-◌, ◌<◌, ◌≤◌};
 ghost use Rattle.model.specs.Task.{block_count};
 ghost use Rattle.model.specs.Planning.{chosen, no_plan, Planned};
@@ -13,7 +15,7 @@ use pricing::Price;
 use regions::CountedRegion;
 
 // A plan of a file, or the refusal.
-#[derive(Drop)]
+#[derive(Clone, Copy)]
 pub struct FilePlan {
     pub verdict: Verdict,
     pub plan: Plan,

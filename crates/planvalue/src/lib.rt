@@ -1,4 +1,6 @@
 // Plan values: which of them can be stored.
+#![tactic(auto)]
+
 ghost use Rattle.std.specs.Prelude.{◌≡◌, true, ℕ, ◌<◌, ◌≤◌, get_or};
 ghost use Rattle.model.specs.Answers.{refused_at};
 ghost use Rattle.model.specs.Lists.{lowest_from, right_point};

@@ -1,4 +1,6 @@
 // Lists of points as they are handed in.
+#![tactic(auto)]
+
 ghost use Rattle.std.specs.Prelude.{◌≡◌};
 ghost use Rattle.model.specs.Lists.{wrong_point};
 

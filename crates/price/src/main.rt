@@ -1,5 +1,7 @@
 // Prices the points that the arguments give, for the task file on standard input: what `plan` prints of its own list, and what each preempter is
 // charged; or the refusal.
+#![tactic(auto)]
+
 ghost use Rattle.std.specs.Prelude.{◌≡◌};
 ghost use Rattle.model.specs.Task.{block_count};
 ghost use Rattle.model.specs.Lists.{wrong_point};

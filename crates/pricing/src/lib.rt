@@ -1,4 +1,6 @@
 // For an accepted file: the price of a list of points, and what each preempter is charged of it.
+#![tactic(auto)]
+
 ghost use Rattle.std.specs.Prelude.{◌&&◌, ◌≡◌, ◌≤◌, length, get_or};
 ghost use Rattle.model.specs.Sets.{bit};
 ghost use Rattle.model.specs.Task.{block_count};
@@ -13,7 +15,7 @@ ghost use Rattle.pricing.specs.Prices.{Prices, ChargedPrices, Loads, RestStays};
 use model::{Line, Place, Refusal, Verdict};
 
 // What pricing a list answers: its lines and cost, or zeros with a refusal.
-#[derive(Drop)]
+#[derive(Clone, Copy)]
 pub struct Price {
     pub verdict: Verdict,
     pub lines: u64,
@@ -21,7 +23,7 @@ pub struct Price {
 }
 
 // The same with each preempter's charge, from 0; a refusal charges nothing.
-#[derive(Drop)]
+#[derive(Clone, Copy)]
 pub struct ChargedPrice {
     pub verdict: Verdict,
     pub lines: u64,

@@ -2,6 +2,8 @@
 // the misses of a replay, files from a seed, joined files, files from a trace, texts of files and files of texts, the next fitting list and the deadlines of a
 // task set, through the public calls. Each call returns the number of its refusal and leaves the place, 0 and 0 where it accepts.
 // A set is left as its eight words; every number takes eight bytes, the lowest first.
+#![tactic(auto)]
+
 ghost use Rattle.std.specs.Prelude.{[], ◌∷◌, ◌++◌, ◌≡◌, ◌*◌, ◌≤◌, length, get_or};
 ghost use Rattle.model.specs.Answers.{verdict_number, verdict_place};
 ghost use Rattle.block.specs.Bytes.{les};

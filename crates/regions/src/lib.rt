@@ -1,4 +1,6 @@
 // The regions of an accepted file: the loaded lines, the length, the cost and the fit of one; and those of one edge, each from the one before it.
+#![tactic(auto)]
+
 ghost use Rattle.std.specs.Prelude.{cond, ◌≡◌, min, ◌+◌, ◌*◌, ◌^◌, ◌≤◌, ◌<◌, eqb};
 ghost use Rattle.model.specs.Task.{Task, block_count};
 ghost use Rattle.model.specs.Regions.{region_lines};
@@ -10,7 +12,7 @@ use lineset::LineSet;
 use model::Header;
 
 // A region's loaded lines and their number, its length, its cost and whether it fits.
-#[derive(Drop)]
+#[derive(Clone, Copy)]
 pub struct MeasuredRegion {
     pub loaded: LineSet,
     pub lines: u32,
@@ -20,7 +22,7 @@ pub struct MeasuredRegion {
 }
 
 // A region whose lines are counted and whose times are summed up, block by block, and the limit that counts for it.
-#[derive(Drop)]
+#[derive(Clone, Copy)]
 pub struct CountedRegion {
     pub from: usize,
     pub to: usize,
@@ -30,14 +32,14 @@ pub struct CountedRegion {
 }
 
 // The sum of the times of some blocks, and the limit that counts for them.
-#[derive(Drop)]
+#[derive(Clone, Copy)]
 struct Run {
     time: u64,
     limit: u32,
 }
 
 // What follows from a region's times and lines: its length, its cost and whether it fits.
-#[derive(Drop)]
+#[derive(Clone, Copy)]
 pub struct Weighed {
     pub length: u64,
     pub cost: u64,

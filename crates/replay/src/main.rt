@@ -1,5 +1,7 @@
 // Replays the reads of the task file on standard input: how many of them miss alone, and how many with the points that the arguments give, or
 // the refusal.
+#![tactic(auto)]
+
 use decimals::Decimal;
 use model::Verdict;
 

@@ -1,4 +1,6 @@
 // Replay of a file's reads, with a list of points and alone: how many of the reads miss.
+#![tactic(auto)]
+
 ghost use Rattle.std.specs.Prelude.{not, cond, ◌&&◌, ◌≡◌, ◌+◌, ◌≤◌, eqb, leb, get_or};
 ghost use Rattle.model.specs.Sets.{bit};
 ghost use Rattle.model.specs.Task.{block_count};
@@ -11,7 +13,7 @@ ghost use Rattle.replaying.specs.Calls.{replay_verdict, misses_alone_of, misses_
 use model::{Line, Mapping, Place, Refusal, Verdict};
 
 // What a replay answers: how many reads miss alone and how many with the points, or zeros with a refusal.
-#[derive(Drop)]
+#[derive(Clone, Copy)]
 pub struct Misses {
     pub verdict: Verdict,
     pub alone: u32,
@@ -19,7 +21,7 @@ pub struct Misses {
 }
 
 // The points passed: the index of the next one, and the last of them, 0 before the first.
-#[derive(Drop)]
+#[derive(Clone, Copy)]
 struct Passed {
     next: usize,
     last: usize,

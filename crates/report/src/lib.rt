@@ -1,4 +1,6 @@
 // The lines that `plan` and `price` print of a list of points, and those that `price` prints of the preempters.
+#![tactic(auto)]
+
 ghost use Rattle.std.specs.Prelude.{◌≡◌};
 ghost use Rattle.model.specs.Task.{block_count};
 ghost use Rattle.model.specs.Lists.{wrong_point};

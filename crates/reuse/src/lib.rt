@@ -1,5 +1,7 @@
 // For an accepted file: the next read of a line, the lines that are useful at each edge, those that each block reads, those that the
 // preempters evict and which of them first, and how many lines each region loads first in each of its blocks.
+#![tactic(auto)]
+
 ghost use Rattle.std.specs.Prelude.{false, not, cond, ◌&&◌, ◌||◌, ◌≡◌, ◌⊎◌, ℕ, ◌+◌, ◌-◌, ◌*◌, ◌<◌, ◌≤◌, eqb, ltb, length, get_or, take, drop, replicate};
 ghost use Rattle.model.specs.Sets.{bit};
 ghost use Rattle.model.specs.Task.{block_count};
@@ -18,14 +20,14 @@ use lineset::LineSet;
 use model::{Line, Mapping, Next};
 
 // What a search for the next read of a line finds, and how many reads it looked at.
-#[derive(Drop)]
+#[derive(Clone, Copy)]
 pub struct Search {
     pub next: Next,
     pub looked: usize,
 }
 
 // U(a), and the union of T(a + 1) to T(b).
-#[derive(Drop)]
+#[derive(Clone, Copy)]
 pub struct Between {
     pub useful: LineSet,
     pub accessed: LineSet,

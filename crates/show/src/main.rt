@@ -1,4 +1,6 @@
 // Prints the text of the task file on standard input, or the refusal.
+#![tactic(auto)]
+
 use model::Verdict;
 
 fn main() {

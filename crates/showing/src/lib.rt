@@ -1,4 +1,6 @@
 // The text of a task, that people read, made of a task file.
+#![tactic(auto)]
+
 ghost use Rattle.std.specs.Prelude.{◌≡◌, [], ◌∷◌, ◌++◌, ◌+◌, ◌<◌, ◌≤◌, leb, length, get_or};
 ghost use Rattle.model.specs.Task.{block_count, preempter_count, no_preempter};
 ghost use Rattle.model.specs.Lines.{block_at};
@@ -12,7 +14,7 @@ ghost use Rattle.showing.specs.Calls.{shown_text, room_row, show_answer, show_ou
 use model::{Header, Refusal, Scratch, Verdict};
 
 // What is answered: the verdict, and the length of the text.
-#[derive(Drop)]
+#[derive(Clone, Copy)]
 pub struct Shown {
     pub verdict: Verdict,
     pub length: usize,

@@ -1,4 +1,6 @@
 // Task files: the answer to any bytes, and the numbers of an accepted file.
+#![tactic(auto)]
+
 ghost use Rattle.std.specs.Prelude.{◌≡◌, ◌+◌, ◌-◌, ◌*◌, ◌^◌, ◌<◌, ◌≤◌, length, get_or};
 ghost use Rattle.model.specs.Answers.{and_then};
 ghost use Rattle.model.specs.Sets.{bit};

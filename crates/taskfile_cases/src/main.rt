@@ -1,4 +1,5 @@
 // The answer to each task file that the arguments name: accepted, or refused with the number and the place.
+#![tactic(auto)]
 
 // The name and the answer of the file that argument i names.
 fn print_case(i: usize) {

@@ -1,4 +1,6 @@
 // Task files from a seed: times, counts and numbers are drawn one after another by a linear congruential generator.
+#![tactic(auto)]
+
 ghost use Rattle.std.specs.Prelude.{◌≡◌, map, ◌+◌, ◌*◌, ◌≤◌, length, take};
 ghost use Rattle.block.specs.Blocks.{numbered};
 ghost use Rattle.taskfile.specs.File.{basic_bytes, preempter_bytes, file_of};
@@ -10,7 +12,7 @@ ghost use Rattle.testload.specs.Calls.{counts_row, generate_verdict, generated};
 use model::{Header, Refusal, Scratch, Verdict};
 
 // A number that was drawn, and the state after it.
-#[derive(Drop)]
+#[derive(Clone, Copy)]
 struct Drawn {
     number: u32,
     state: u32,

@@ -1,4 +1,6 @@
 // Files from a seed: for each case its numbers and the buffer's length, and then the FNV-1a hash of the file, or the refusal.
+#![tactic(auto)]
+
 ghost use Rattle.std.specs.Prelude.{◌≤◌};
 
 use libc::STDOUT_FILENO;

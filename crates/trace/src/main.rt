@@ -1,5 +1,7 @@
 // Writes the task file of a trace in din form, which stands on standard input, to standard output; a refusal goes to standard error. The
 // arguments give a memory block's size, records for each basic block, ticks for each record, S, Q, R and the id.
+#![tactic(auto)]
+
 use model::Verdict;
 use tracing::{Scan, Settings};
 

@@ -1,5 +1,7 @@
 // Task files from traces in din form. A text is scanned byte by byte, and the addresses of its records are kept; once it has ended,
 // the refusals are decided, and the file is written.
+#![tactic(auto)]
+
 ghost use Rattle.std.specs.Prelude.{◌≡◌, true, map, ◌++◌, ◌+◌, ◌*◌, ◌/◌, ◌≤◌, min, length, take, drop};
 ghost use Rattle.model.specs.Answers.{and_then};
 ghost use Rattle.block.specs.Blocks.{numbered};
@@ -20,7 +22,7 @@ use model::{Header, Refusal, Scratch, Verdict};
 pub const ROOM: usize = 7937;
 
 // How a trace becomes a task: a memory block's bytes, records for each basic block, ticks for each record, and the header's S, Q, R and id.
-#[derive(Drop)]
+#[derive(Clone, Copy)]
 pub struct Settings {
     pub size: u32,
     pub group: u32,
@@ -32,7 +34,7 @@ pub struct Settings {
 }
 
 // What a call answers: the file's length beside the verdict, 0 where it refuses.
-#[derive(Drop)]
+#[derive(Clone, Copy)]
 pub struct Traced {
     pub verdict: Verdict,
     pub length: usize,
@@ -40,7 +42,7 @@ pub struct Traced {
 
 // What is known of a text so far: how many bytes of its last line there are, or 11 where a line is malformed; the address that the digits
 // of that line say; the records before it.
-#[derive(Drop)]
+#[derive(Clone, Copy)]
 pub struct Scan {
     pub column: u32,
     pub address: u32,
@@ -74,7 +76,7 @@ fn digit_of(byte: u8) -> u32
 }
 
 // A scan at a place of a piece.
-#[derive(Drop)]
+#[derive(Clone, Copy)]
 struct Position {
     scan: Scan,
     at: usize,

@@ -1,4 +1,6 @@
 // Prints the useful lines at an edge of the task file on standard input, or the refusal.
+#![tactic(auto)]
+
 use lineset::LineSet;
 use model::Verdict;
 

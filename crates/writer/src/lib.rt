@@ -1,5 +1,7 @@
 // Task files, written block by block, all but the header and the checksums. Once all blocks stand the file is closed, so that the checksums of
 // four blocks are computed side by side.
+#![tactic(auto)]
+
 ghost use Rattle.std.specs.Prelude.{◌≡◌, [], ◌∷◌, ◌++◌, ◌+◌, ◌*◌, ◌%◌, ◌<◌, ◌≤◌, length, take};
 ghost use Rattle.block.specs.Bytes.{packed};
 ghost use Rattle.block.specs.Blocks.{numbered};

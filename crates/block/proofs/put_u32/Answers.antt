@@ -1,0 +1,10 @@
+-- `block::put_u32` meets its contract: its low half and then its high half are stored.
+use native.Mathlib.Omega.{arith}
+use Rattle.block.proofs.Bytes.{put-halves}
+use Rattle.block.proofs.put_u32.Goals as goal
+
+pub returns : goal.returns
+returns c =
+    let args = c.args in
+    put-halves 2 args.bytes.now c.put_u16.new.bytes c.put_u16-2.new.bytes args.at args.v (omega arith)
+    c.put_u16.ensures c.put_u16-2.ensures

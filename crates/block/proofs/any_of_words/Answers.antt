@@ -25,7 +25,7 @@ pub loop-i-preserved : goal.loop-i-preserved
 loop-i-preserved c =
     let loop = c.loop-i in
     let args = c.args in
-    let bs = args.bytes.now in
+    let bs = c.args.bytes.now in
     let at : ℕ = args.start + 8 * loop.i in
     let next : args.start + 8 * (loop.i + 1) ≡ at + 8 = omega arith in (
       omega arith,

@@ -13,12 +13,12 @@ use Rattle.block.proofs.body_right.Goals.{After-shared_slice_known-1}
 
 tests : (c : goal.After-shared_slice_known-1)
     → let args = c.args in
-    let bs = args.block.now in
-    body_right args.number (framed args.kind args.byte-1 args.end bs) bs
-    ≡ (eqb (get_or bs 0 0) args.kind && eqb (get_or bs 1 0) args.byte-1 && zeros_between bs args.end 504 && eqb (field bs 504 4) args.number)
+    let bs = c.args.block.now in
+    body_right args.number (framed args.kind c.args.byte_1 args.end bs) bs
+    ≡ (eqb (get_or bs 0 0) args.kind && eqb (get_or bs 1 0) c.args.byte_1 && zeros_between bs args.end 504 && eqb (field bs 504 4) args.number)
 tests c =
     let args = c.args in
-    body-frame args.number args.kind args.byte-1 args.end args.block.now (λ i _. (c.type_inv.block i).fits)
+    body-frame args.number args.kind c.args.byte_1 args.end args.block.now (λ i _. (c.type_inv.block i).fits)
     c.requires.block_len c.requires.le_end.0 c.requires.le_end.1 c.ranges.kind.fits c.ranges.byte-1.fits c.ranges.number.fits
 
 pub returns-then-block-kind : goal.returns-then-block-kind

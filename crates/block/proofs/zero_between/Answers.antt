@@ -20,7 +20,7 @@ returns-then-end-start c =
 -- the words are tested first
 words : (c : goal.After-any_of_words)
     → let args = c.args in
-    let bs = args.bytes.now in
+    let bs = c.args.bytes.now in
     zeros_between bs args.start args.end ≡ (eqb c.any_of_words.result 0 && zeros_between bs (args.start + 8 * ((args.end - args.start) / 8)) args.end)
 words c =
     let args = c.args in
@@ -40,7 +40,7 @@ next : (c : goal.In-loop-i)
     zeros_between args.bytes.now i args.end ≡ (eqb (get_or args.bytes.now i 0) 0 && zeros_between args.bytes.now (i + 1) args.end)
 next c =
     let args = c.args in
-    let bs = args.bytes.now in
+    let bs = c.args.bytes.now in
     let i = c.loop-i.i in
     rw (
       ← field-byte bs i (omega arith),

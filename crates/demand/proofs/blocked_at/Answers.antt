@@ -1,8 +1,5 @@
 -- `demand::blocked_at` meets its contract. The loop's invariant: the greatest region and the least deadline among the tasks passed with a deadline above t.
-use Prim.Native.Nat.{◌-◌, ◌≤◌, min, max}
-use mathlib.Core.Path.{◌≡◌}
 use native.Mathlib.Omega.{arith}
-use Rattle.demand.specs.Lanes.{below, latest, blocked_by, ended_by}
 use Rattle.demand.proofs.Joined.{joined-none, joined-more, joined-all}
 use Rattle.demand.proofs.blocked_at.Goals as goal
 
@@ -18,4 +15,4 @@ loop-i-preserved c =
     )
 
 pub returns : goal.returns
-returns c = let inv = c.loop-i.invariant in (joined-all _ _ _ _ _ inv.1 (omega arith), joined-all _ _ _ _ _ inv.2 (omega arith))
+returns c = let inv = c.loop-i.invariant in record { region_value = joined-all _ _ _ _ _ inv.1 (omega arith); until_value = joined-all _ _ _ _ _ inv.2 (omega arith) }

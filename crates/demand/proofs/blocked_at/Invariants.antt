@@ -1,9 +1,7 @@
 -- `demand::blocked_at` meets its contract. The loop's invariant: the greatest region and the least deadline among the tasks passed with a deadline above t.
 use Prim.Native.Nat.{◌-◌, ◌≤◌, min, max}
 use mathlib.Core.Path.{◌≡◌}
-use native.Mathlib.Omega.{arith}
 use Rattle.demand.specs.Lanes.{below, latest, blocked_by, ended_by}
-use Rattle.demand.proofs.Joined.{joined-none, joined-more, joined-all}
 use Rattle.demand.proofs.blocked_at.Given as goal
 
 abbrev pub invariant-loop-i : goal.invariant-loop-i

@@ -1,8 +1,7 @@
 -- `demand::blocked_from` meets its contract.
-use borrow.Author.Rules.{rules}
 use Rattle.demand.proofs.Blocking.{blocks-until}
 use Rattle.demand.proofs.blocked_from.Goals as goal
 
 pub returns-then-blocked-t : goal.returns-then-blocked-t
 returns-then-blocked-t c =
-    blocks-until c.args.count c.args.deadlines.now c.args.regions.now c.args.t _ c.blocked_at.ensures.0 c.blocked_at.ensures.1 c.requires.2
+    blocks-until c.args.count c.args.deadlines.now c.args.regions.now c.args.t _ c.blocked_at.ensures.region_value c.blocked_at.ensures.until_value c.requires.2

@@ -17,8 +17,8 @@ arrays : (at : goal.At-loop-t)
     → Arrays (take at.args.set.count at.args.set.tasks) at.args.set.count at.spread-columns.result.executions at.spread-columns.result.periods at.spread-columns.result.deadlines at.spread-columns.result.regions
 arrays at =
     let counted = set-counted _ _ at.requires.0 in
-    let spread = at.spread-columns.ensures.0 in
-    let all = at.spread-columns.ensures.1 in
+    let spread = at.spread-columns.ensures.spread in
+    let all = at.spread-columns.ensures.count_value in
     record {
       all = all;
       few = counted.most;
@@ -59,7 +59,7 @@ overflow_add-demand c =
     omega (
       arith,
       (c.loop-t.invariant.0 _ (arrays (goal.at.overflow_add-demand c).At-loop-t)).demand-most,
-      demand-most-at _ _ _ _ _ _ (arrays (goal.at.overflow_add-demand c).At-loop-t) c.loop-t.instants c.loop-t.demand c.loop-t.t _ c.pass-passed.ensures.0,
+      demand-most-at _ _ _ _ _ _ (arrays (goal.at.overflow_add-demand c).At-loop-t) c.loop-t.instants c.loop-t.demand c.loop-t.t _ c.pass-passed.ensures.demand_value,
       blocking-read-most _ _ _ _ _ _ (arrays (goal.at.overflow_add-demand c).At-loop-t) c.loop-t.t _ (now-blocked.0 c.loop-t.t (omega arith) now-blocked.1),
     )
 
@@ -67,23 +67,23 @@ pub returns-then-t-demand : goal.returns-then-t-demand
 returns-then-t-demand c =
     let done = c.pass-passed.ensures in
     let now-blocked = c.blocked_from-blocked.ensures in
-    let all = total-is _ _ _ _ _ _ (arrays (goal.at.returns-then-t-demand c).At-loop-t) _ _ _ _ _ _ _ _ (c.loop-t.invariant.0 _ (arrays (goal.at.returns-then-t-demand c).At-loop-t)) done.0 (now-blocked.0 c.loop-t.t (omega arith) now-blocked.1) done.1.0 done.1.1 in
+    let all = total-is _ _ _ _ _ _ (arrays (goal.at.returns-then-t-demand c).At-loop-t) _ _ _ _ _ _ _ _ (c.loop-t.invariant.0 _ (arrays (goal.at.returns-then-t-demand c).At-loop-t)) c.pass-passed.ensures.demand_value (now-blocked.0 c.loop-t.t (omega arith) now-blocked.1) c.pass-passed.ensures.next_value.0 c.pass-passed.ensures.next_value.1 in
     sym (first-missed _ _ _ _ _ (c.loop-t.invariant.0 _ (arrays (goal.at.returns-then-t-demand c).At-loop-t)) (omega (arith, c.loop-t-test.true)) (omega (arith, all, c.if-t-demand.true)))
 
 pub loop-t-smaller : goal.loop-t-smaller
 loop-t-smaller c =
     let done = c.pass-passed.ensures in
     let now-blocked = c.blocked_from-blocked.ensures in
-    let later = next-above _ _ _ _ _ _ (arrays (goal.at.loop-t-smaller c).At-loop-t) _ _ _ _ _ _ _ _ (c.loop-t.invariant.0 _ (arrays (goal.at.loop-t-smaller c).At-loop-t)) done.0 (now-blocked.0 c.loop-t.t (omega arith) now-blocked.1) done.1.0 done.1.1 (omega (arith, c.loop-t-test.true)) in
+    let later = next-above _ _ _ _ _ _ (arrays (goal.at.loop-t-smaller c).At-loop-t) _ _ _ _ _ _ _ _ (c.loop-t.invariant.0 _ (arrays (goal.at.loop-t-smaller c).At-loop-t)) c.pass-passed.ensures.demand_value (now-blocked.0 c.loop-t.t (omega arith) now-blocked.1) c.pass-passed.ensures.next_value.0 c.pass-passed.ensures.next_value.1 (omega (arith, c.loop-t-test.true)) in
     omega (arith, c.loop-t-test.true)
 
 pub loop-t-preserved : goal.loop-t-preserved
 loop-t-preserved c =
     let done = c.pass-passed.ensures in
     let now-blocked = c.blocked_from-blocked.ensures in
-    let later = next-above _ _ _ _ _ _ (arrays (goal.at.loop-t-preserved c).At-loop-t) _ _ _ _ _ _ _ _ (c.loop-t.invariant.0 _ (arrays (goal.at.loop-t-preserved c).At-loop-t)) done.0 (now-blocked.0 c.loop-t.t (omega arith) now-blocked.1) done.1.0 done.1.1 (omega (arith, c.loop-t-test.true)) in (
+    let later = next-above _ _ _ _ _ _ (arrays (goal.at.loop-t-preserved c).At-loop-t) _ _ _ _ _ _ _ _ (c.loop-t.invariant.0 _ (arrays (goal.at.loop-t-preserved c).At-loop-t)) c.pass-passed.ensures.demand_value (now-blocked.0 c.loop-t.t (omega arith) now-blocked.1) c.pass-passed.ensures.next_value.0 c.pass-passed.ensures.next_value.1 (omega (arith, c.loop-t-test.true)) in (
       λ τs a.
-          visiting-next τs _ _ _ _ _ a _ _ _ _ _ _ _ _ (c.loop-t.invariant.0 τs a) done.0 (now-blocked.0 c.loop-t.t (omega arith) now-blocked.1) done.1.0 done.1.1
+          visiting-next τs _ _ _ _ _ a _ _ _ _ _ _ _ _ (c.loop-t.invariant.0 τs a) c.pass-passed.ensures.demand_value (now-blocked.0 c.loop-t.t (omega arith) now-blocked.1) c.pass-passed.ensures.next_value.0 c.pass-passed.ensures.next_value.1
           (omega (arith, c.loop-t-test.true)) (omega (arith, c.requires.1)) c.if-t-demand.false,
       λ s l u. now-blocked.0 s (omega arith) u,
     )

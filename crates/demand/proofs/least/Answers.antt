@@ -1,10 +1,6 @@
 -- `demand::least` meets its contract. The loop's invariant: the least of the deadlines passed.
-use Prim.Native.Nat.{◌+◌, ◌-◌, ◌≤◌, min}
-use mathlib.Core.Path.{◌≡◌, refl}
+use mathlib.Core.Path.{refl}
 use native.Mathlib.Omega.{arith}
-use lib.ListN.{get_or}
-use Rattle.demand.specs.Demand.{most_ticks}
-use Rattle.demand.specs.Lanes.{below}
 use Rattle.demand.proofs.Joined.{joined-none, joined-more, joined-all}
 use Rattle.demand.proofs.least.Goals as goal
 

@@ -25,7 +25,7 @@ loop-i-init c = (omega arith, omega arith, omega arith, refl)
 pub returns-then-not-right_task : goal.returns-then-not-right_task
 returns-then-not-right_task c =
     let inv = c.loop-i.invariant in
-    let set = c.args.t1 in
+    let set = c.args.self in
     let long : length set.tasks ≡ 16 = search (rules, array_long) in
     let all = take_long set.tasks set.count (omega arith) in
     let here = lane-within set.tasks set.count c.loop-i.i (omega arith) in
@@ -35,7 +35,7 @@ returns-then-not-right_task c =
 pub loop-i-preserved : goal.loop-i-preserved
 loop-i-preserved c =
     let inv = c.loop-i.invariant in
-    let set = c.args.t1 in
+    let set = c.args.self in
     let long : length set.tasks ≡ 16 = search (rules, array_long) in
     let all = take_long set.tasks set.count (omega arith) in
     let here = lane-within set.tasks set.count c.loop-i.i (omega arith) in
@@ -49,7 +49,7 @@ loop-i-preserved c =
 pub returns : goal.returns
 returns c =
     let inv = c.loop-i.invariant in
-    let set = c.args.t1 in
+    let set = c.args.self in
     let long : length set.tasks ≡ 16 = search (rules, array_long) in
     let all = take_long set.tasks set.count (omega arith) in
     sym (set-rights _ _ inv.0 inv.1 ∙ inv.3 ∙ rights-end (take set.count set.tasks) c.loop-i.i (omega arith))

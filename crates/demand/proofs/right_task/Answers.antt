@@ -1,6 +1,5 @@
 -- `demand::right_task` meets its contract: its tests are the definition's, in its order.
 use Rattle.demand.specs.Calls.{right_task}
-use borrow.Author.Rules.{rules}
 use Rattle.demand.proofs.right_task.Goals as goal
 
 pub returns : goal.returns

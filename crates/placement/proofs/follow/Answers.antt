@@ -3,6 +3,7 @@ use Rattle.std.proofs.Common.{◌≡◌, ℕ, suc, ◌+◌, ◌-◌, ◌<◌, �
 use native.Mathlib.Numerals.{lt-add-one}
 use Rattle.placement.specs.Rows.{Leads, Rising, Followed}
 use Rattle.placement.proofs.follow.Goals as goal
+use Rattle.placement.proofs.follow.Invariants.{Reached}
 
 fewer-zeros : (l : List ℕ) (i m : ℕ) → drop i l ≡ replicate (suc m) 0 → drop (i + 1) l ≡ replicate m 0
 fewer-zeros l i m e = sym (drop-drop 1 i l) ∙ ap (drop 1) e

@@ -67,23 +67,23 @@ pub returns-then-t-demand : goal.returns-then-t-demand
 returns-then-t-demand c =
     let done = c.pass-passed.ensures in
     let now-blocked = c.blocked_from-blocked.ensures in
-    let all = total-is _ _ _ _ _ _ (arrays (goal.at.returns-then-t-demand c).At-loop-t) _ _ _ _ _ _ _ _ (c.loop-t.invariant.0 _ (arrays (goal.at.returns-then-t-demand c).At-loop-t)) c.pass-passed.ensures.demand_value (now-blocked.0 c.loop-t.t (omega arith) now-blocked.1) c.pass-passed.ensures.next_value.0 c.pass-passed.ensures.next_value.1 in
+    let all = total-is _ _ _ _ _ _ (arrays (goal.at.returns-then-t-demand c).At-loop-t) _ _ _ _ _ _ _ _ (c.loop-t.invariant.0 _ (arrays (goal.at.returns-then-t-demand c).At-loop-t)) c.pass-passed.ensures.demand_value (now-blocked.0 c.loop-t.t (omega arith) now-blocked.1) c.pass-passed.ensures.next_value c.pass-passed.ensures.holds in
     sym (first-missed _ _ _ _ _ (c.loop-t.invariant.0 _ (arrays (goal.at.returns-then-t-demand c).At-loop-t)) (omega (arith, c.loop-t-test.true)) (omega (arith, all, c.if-t-demand.true)))
 
 pub loop-t-smaller : goal.loop-t-smaller
 loop-t-smaller c =
     let done = c.pass-passed.ensures in
     let now-blocked = c.blocked_from-blocked.ensures in
-    let later = next-above _ _ _ _ _ _ (arrays (goal.at.loop-t-smaller c).At-loop-t) _ _ _ _ _ _ _ _ (c.loop-t.invariant.0 _ (arrays (goal.at.loop-t-smaller c).At-loop-t)) c.pass-passed.ensures.demand_value (now-blocked.0 c.loop-t.t (omega arith) now-blocked.1) c.pass-passed.ensures.next_value.0 c.pass-passed.ensures.next_value.1 (omega (arith, c.loop-t-test.true)) in
+    let later = next-above _ _ _ _ _ _ (arrays (goal.at.loop-t-smaller c).At-loop-t) _ _ _ _ _ _ _ _ (c.loop-t.invariant.0 _ (arrays (goal.at.loop-t-smaller c).At-loop-t)) c.pass-passed.ensures.demand_value (now-blocked.0 c.loop-t.t (omega arith) now-blocked.1) c.pass-passed.ensures.next_value c.pass-passed.ensures.holds (omega (arith, c.loop-t-test.true)) in
     omega (arith, c.loop-t-test.true)
 
 pub loop-t-preserved : goal.loop-t-preserved
 loop-t-preserved c =
     let done = c.pass-passed.ensures in
     let now-blocked = c.blocked_from-blocked.ensures in
-    let later = next-above _ _ _ _ _ _ (arrays (goal.at.loop-t-preserved c).At-loop-t) _ _ _ _ _ _ _ _ (c.loop-t.invariant.0 _ (arrays (goal.at.loop-t-preserved c).At-loop-t)) c.pass-passed.ensures.demand_value (now-blocked.0 c.loop-t.t (omega arith) now-blocked.1) c.pass-passed.ensures.next_value.0 c.pass-passed.ensures.next_value.1 (omega (arith, c.loop-t-test.true)) in (
+    let later = next-above _ _ _ _ _ _ (arrays (goal.at.loop-t-preserved c).At-loop-t) _ _ _ _ _ _ _ _ (c.loop-t.invariant.0 _ (arrays (goal.at.loop-t-preserved c).At-loop-t)) c.pass-passed.ensures.demand_value (now-blocked.0 c.loop-t.t (omega arith) now-blocked.1) c.pass-passed.ensures.next_value c.pass-passed.ensures.holds (omega (arith, c.loop-t-test.true)) in (
       λ τs a.
-          visiting-next τs _ _ _ _ _ a _ _ _ _ _ _ _ _ (c.loop-t.invariant.0 τs a) c.pass-passed.ensures.demand_value (now-blocked.0 c.loop-t.t (omega arith) now-blocked.1) c.pass-passed.ensures.next_value.0 c.pass-passed.ensures.next_value.1
+          visiting-next τs _ _ _ _ _ a _ _ _ _ _ _ _ _ (c.loop-t.invariant.0 τs a) c.pass-passed.ensures.demand_value (now-blocked.0 c.loop-t.t (omega arith) now-blocked.1) c.pass-passed.ensures.next_value c.pass-passed.ensures.holds
           (omega (arith, c.loop-t-test.true)) (omega (arith, c.requires.1)) c.if-t-demand.false,
       λ s l u. now-blocked.0 s (omega arith) u,
     )

@@ -25,21 +25,21 @@ loop-i-init c = (omega arith, omega arith, omega arith, refl)
 pub returns-then-not-right_task : goal.returns-then-not-right_task
 returns-then-not-right_task c =
     let inv = c.loop-i.invariant in
-    let set = c.args.self in
+    let set = c.args.set in
     let long : length set.tasks ≡ 16 = search (rules, array_long) in
     let all = take_long set.tasks set.count (omega arith) in
     let here = lane-within set.tasks set.count c.loop-i.i (omega arith) in
-    let wrong : right_task (lane (take set.count set.tasks) c.loop-i.i) ≡ false = rw (← here) (sym c.right_task.ensures ∙ not-true _ c.if-not-right_task.true) in
+    let wrong : right_task (lane (take set.count set.tasks) c.loop-i.i) ≡ false = rw (← here) (sym c.right_task.ensures ∙ c.if-not-right_task.true) in
     sym (set-rights _ _ inv.0 inv.1 ∙ inv.3 ∙ rights-wrong (take set.count set.tasks) c.loop-i.i (omega arith) wrong)
 
 pub loop-i-preserved : goal.loop-i-preserved
 loop-i-preserved c =
     let inv = c.loop-i.invariant in
-    let set = c.args.self in
+    let set = c.args.set in
     let long : length set.tasks ≡ 16 = search (rules, array_long) in
     let all = take_long set.tasks set.count (omega arith) in
     let here = lane-within set.tasks set.count c.loop-i.i (omega arith) in
-    let right : right_task (lane (take set.count set.tasks) c.loop-i.i) ≡ true = rw (← here) (sym c.right_task.ensures ∙ not-false _ c.if-not-right_task.false) in (
+    let right : right_task (lane (take set.count set.tasks) c.loop-i.i) ≡ true = rw (← here) (sym c.right_task.ensures ∙ c.if-not-right_task.false) in (
       inv.0,
       inv.1,
       omega arith,
@@ -49,7 +49,7 @@ loop-i-preserved c =
 pub returns : goal.returns
 returns c =
     let inv = c.loop-i.invariant in
-    let set = c.args.self in
+    let set = c.args.set in
     let long : length set.tasks ≡ 16 = search (rules, array_long) in
     let all = take_long set.tasks set.count (omega arith) in
     sym (set-rights _ _ inv.0 inv.1 ∙ inv.3 ∙ rights-end (take set.count set.tasks) c.loop-i.i (omega arith))

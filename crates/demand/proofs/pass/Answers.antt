@@ -1,5 +1,4 @@
 -- `demand::pass` meets its contract. The loop's invariant is `Passing`; a place goes on by one of its two laws.
-use Prim.Native.Nat.{◌-◌}
 use native.Mathlib.Omega.{arith}
 use Rattle.demand.proofs.Joined.{joined-all}
 use Rattle.demand.proofs.Filling.{filled-all}
@@ -21,12 +20,12 @@ overflow_add-demand c =
 pub loop-i-preserved : goal.loop-i-preserved
 loop-i-preserved c =
     elim c.if-instant-t.branch [
-      then-instant-t w ↦
-        rw (w.instants-is, w.demand-is, w.next-is)
-        (passing-here _ _ _ _ _ _ _ c.requires.0 c.requires.3 (omega arith) c.loop-i.invariant w.if-instant-t.true w.lesser-next.ensures)
-    | else-instant-t w ↦
-        rw (w.instants-is, w.demand-is, w.next-is)
-        (passing-past _ _ _ _ _ _ _ c.requires.0 (omega arith) c.loop-i.invariant w.if-instant-t.false w.lesser-next-else-instant-t.ensures)
+      | then-instant-t w ↦
+          rw (w.instants-is, w.demand-is, w.next-is)
+          (passing-here _ _ _ _ _ _ _ c.requires.0 c.requires.3 (omega arith) c.loop-i.invariant w.if-instant-t.true w.lesser-next.ensures)
+      | else-instant-t w ↦
+          rw (w.instants-is, w.demand-is, w.next-is)
+          (passing-past _ _ _ _ _ _ _ c.requires.0 (omega arith) c.loop-i.invariant w.if-instant-t.false w.lesser-next-else-instant-t.ensures)
     ]
 
 pub returns : goal.returns

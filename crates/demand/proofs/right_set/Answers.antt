@@ -1,13 +1,11 @@
 -- `demand::right_set` meets its contract. The loop's invariant: the tasks are right if those left are.
-use Prim.Native.Nat.{◌-◌, ◌≤◌}
 use mathlib.Core.Path.{◌≡◌, refl, sym, ◌∙◌}
 use mathlib.Core.Bool.{true, false}
 use mathlib.Core.Logic.{inl, inr}
 use native.Mathlib.Omega.{arith}
 use borrow.Author.Rules.{rules}
-use borrow.Author.Tests.{not-true, not-false}
-use lib.ListN.{length, take, drop}
-use Rattle.demand.specs.Calls.{most_tasks, right_task, right_tasks}
+use lib.ListN.{length, take}
+use Rattle.demand.specs.Calls.{right_task}
 use Rattle.demand.specs.Lanes.{lane}
 use Rattle.demand.proofs.Ranges.{rights-more, rights-wrong, rights-end, set-rights, set-wrong}
 use Rattle.demand.proofs.Records.{array_long, lane-within, take_long}

@@ -1,10 +1,8 @@
 -- `demand::spread` meets its contract. The loop's invariant: the arrays hold the fields of the tasks passed.
-use Prim.Native.Nat.{◌-◌, ◌≤◌}
 use mathlib.Core.Path.{◌≡◌, sym}
 use native.Mathlib.Omega.{arith}
 use borrow.Author.Rules.{rules}
-use lib.ListN.{length, take}
-use Rattle.demand.specs.Lanes.{Spread}
+use lib.ListN.{length}
 use Rattle.demand.proofs.Filling.{spread_none, spread-more, spread-all}
 use Rattle.demand.proofs.Records.{array_long, lane-within, take_long}
 use Rattle.demand.proofs.spread.Goals as goal

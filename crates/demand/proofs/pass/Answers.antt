@@ -1,21 +1,11 @@
 -- `demand::pass` meets its contract. The loop's invariant is `Passing`; a place goes on by one of its two laws.
 use native.Mathlib.Omega.{arith}
-use Rattle.demand.proofs.Joined.{joined-all}
-use Rattle.demand.proofs.Filling.{filled-all}
-use Rattle.demand.proofs.Passing.{passing-none, passing-here, passing-past, passing-all}
+use Rattle.demand.proofs.Passing.{passing-none, passing-here, passing-past}
 use Rattle.demand.proofs.pass.Goals as goal
 use Rattle.demand.proofs.pass.Goals.{then-instant-t, else-instant-t}
 
 pub loop-i-init : goal.loop-i-init
 loop-i-init c = passing-none _ _ _ _ _ _ _ c.requires.2
-
-pub overflow_add-later : goal.overflow_add-later
-overflow_add-later c =
-    omega (arith, c.if-instant-t.true, c.requires.5, c.requires.1 c.loop-i.i (omega arith))
-
-pub overflow_add-demand : goal.overflow_add-demand
-overflow_add-demand c =
-    omega (arith, c.loop-i.invariant.demand-most, c.requires.4, c.requires.0 c.loop-i.i (omega arith))
 
 pub loop-i-preserved : goal.loop-i-preserved
 loop-i-preserved c =
@@ -27,12 +17,3 @@ loop-i-preserved c =
           rw (w.instants-is, w.demand-is, w.next-is)
           (passing-past _ _ _ _ _ _ _ c.requires.0 (omega arith) c.loop-i.invariant w.if-instant-t.false w.lesser-next-else-instant-t.ensures)
     ]
-
-pub returns : goal.returns
-returns c =
-    let inv = c.loop-i.invariant in
-    record {
-      demand_value = passing-all _ _ _ _ _ _ _ inv (omega arith);
-      next_value = joined-all _ _ _ _ _ inv.next-is (omega arith);
-      holds = filled-all _ _ _ _ c.loop-i-test.false inv.gone;
-    }

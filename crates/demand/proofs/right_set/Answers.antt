@@ -8,7 +8,7 @@ use lib.ListN.{length, take}
 use Rattle.demand.specs.Calls.{right_task}
 use Rattle.demand.specs.Lanes.{lane}
 use Rattle.demand.proofs.Ranges.{rights-more, rights-wrong, rights-end, set-rights, set-wrong}
-use Rattle.demand.proofs.Records.{array_long, lane-within, take_long}
+use Rattle.demand.proofs.Records.{lane-within, take_long}
 use Rattle.demand.proofs.right_set.Goals as goal
 
 pub returns-then-count-lt1 : goal.returns-then-count-lt1
@@ -24,7 +24,7 @@ pub returns-then-not-right_task : goal.returns-then-not-right_task
 returns-then-not-right_task c =
     let inv = c.loop-i.invariant in
     let set = c.args.set in
-    let long : length set.tasks ≡ 16 = search (rules, array_long) in
+    let long : length set.tasks ≡ 16 = search rules in
     let all = take_long set.tasks set.count (omega arith) in
     let here = lane-within set.tasks set.count c.loop-i.i (omega arith) in
     let wrong : right_task (lane (take set.count set.tasks) c.loop-i.i) ≡ false = rw (← here) (sym c.right_task.ensures ∙ c.if-not-right_task.true) in
@@ -34,7 +34,7 @@ pub loop-i-preserved : goal.loop-i-preserved
 loop-i-preserved c =
     let inv = c.loop-i.invariant in
     let set = c.args.set in
-    let long : length set.tasks ≡ 16 = search (rules, array_long) in
+    let long : length set.tasks ≡ 16 = search rules in
     let all = take_long set.tasks set.count (omega arith) in
     let here = lane-within set.tasks set.count c.loop-i.i (omega arith) in
     let right : right_task (lane (take set.count set.tasks) c.loop-i.i) ≡ true = rw (← here) (sym c.right_task.ensures ∙ c.if-not-right_task.false) in (
@@ -48,6 +48,6 @@ pub returns : goal.returns
 returns c =
     let inv = c.loop-i.invariant in
     let set = c.args.set in
-    let long : length set.tasks ≡ 16 = search (rules, array_long) in
+    let long : length set.tasks ≡ 16 = search rules in
     let all = take_long set.tasks set.count (omega arith) in
     sym (set-rights _ _ inv.0 inv.1 ∙ inv.3 ∙ rights-end (take set.count set.tasks) c.loop-i.i (omega arith))

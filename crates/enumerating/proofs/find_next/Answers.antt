@@ -3,7 +3,6 @@
 use Prim.Native.Nat.{ℕ}
 use mathlib.Core.Path.{ap, ◌∙◌}
 use native.Mathlib.Omega.{arith}
-use borrow.Author.Rules.{rules}
 use Rattle.taskfile.specs.File.{task_of}
 use Rattle.enumerating.specs.Search.{next_found}
 use Rattle.enumerating.specs.Table.{fit_in, number_in}
@@ -22,5 +21,5 @@ returns c =
     let table = c.evaluate_regions in
     let count = c.block_count.ensures in
     c.next_fitting.ensures ∙
-    ap (λ (n : ℕ). next_found (fit_in c.evaluate_regions.new.lines.0) (number_in c.evaluate_regions.new.lines.1.0) (number_in c.evaluate_regions.new.lines.1.1.0) n c.args.start) count.0 ∙
+    ap (λ (n : ℕ). next_found (fit_in c.evaluate_regions.new.fits) (number_in c.evaluate_regions.new.lines) (number_in c.evaluate_regions.new.costs) n c.args.start) count.0 ∙
     same_next (task_of c.args.file.now) _ _ _ c.args.start (omega (arith, count.0, count.1)) c.requires.1 table.ensures

@@ -1,12 +1,11 @@
 -- `enumerating::if_fitting` meets its contract. The loop's invariant: the regions so far and the
 -- remaining points make the whole list.
-use Prim.Native.Nat.{◌+◌, ◌-◌, ◌*◌, ◌≤◌}
+use Prim.Native.Nat.{◌+◌, ◌*◌}
 use mathlib.Core.Path.{sym, ◌∙◌}
 use native.Mathlib.Omega.{arith}
-use mathlib.Core.Logic.{⊎_elim}
-use Rattle.enumerating.specs.Table.{fit_in, number_in}
-use Rattle.enumerating.proofs.Walks.{Walked, walked_start, walked-point, walked_none, walked_end, walked-is, if-fits, if-above}
+use Rattle.enumerating.proofs.Walks.{walked_start, walked-point, walked_none, walked_end, walked-is, if-fits, if-above}
 use Rattle.enumerating.proofs.if_fitting.Goals as goal
+use Rattle.enumerating.proofs.if_fitting.Goals.{then-rest-eq1, else-rest-eq1}
 
 pub loop-to-init : goal.loop-to-init
 loop-to-init c = (omega arith, walked_start _ _ _ _ _)
@@ -21,12 +20,13 @@ loop-to-preserved c =
     let l = c.loop-to in
     let at = 17 * l.walk.from + l.to in (
       omega arith,
-      ⊎_elim
-          (λ w.
-          let e = w.1.ensures in
-          walked-is _ _ _ _ _ (rw w.2 e.0) (rw w.2 e.1.0) (rw w.2 e.1.1.0) (rw w.2 e.1.1.1)
-          (walked-point _ _ _ _ _ l.invariant.1 (omega arith) w.0.taken (c.requires.2.few at) (c.requires.2.small at)))
-          (λ w. rw w.1 (walked_none _ _ _ _ _ l.invariant.1 (omega arith) w.0.left)) c.if-rest-eq1.branch,
+      elim c.if-rest-eq1.branch [
+        | then-rest-eq1 w ↦
+            let e = w.ended-walk.ensures in
+            walked-is _ _ _ _ _ (rw w.walk-is e.fits_value) (rw w.walk-is e.from_value) (rw w.walk-is e.lines_value) (rw w.walk-is e.cost_value)
+                (walked-point _ _ _ _ _ l.invariant.1 (omega arith) w.if-rest-eq1.true (c.requires.2.few at) (c.requires.2.small at))
+        | else-rest-eq1 w ↦ rw w.walk-is (walked_none _ _ _ _ _ l.invariant.1 (omega arith) w.if-rest-eq1.false)
+      ],
     )
 
 pub ended-whole-requires : goal.ended-whole-requires

@@ -1,11 +1,8 @@
 -- `enumerating::if_fitting` meets its contract. The loop's invariant: the regions so far and the
 -- remaining points make the whole list.
-use Prim.Native.Nat.{◌+◌, ◌-◌, ◌*◌, ◌≤◌}
-use mathlib.Core.Path.{sym, ◌∙◌}
-use native.Mathlib.Omega.{arith}
-use mathlib.Core.Logic.{⊎_elim}
+use Prim.Native.Nat.{◌-◌, ◌≤◌}
 use Rattle.enumerating.specs.Table.{fit_in, number_in}
-use Rattle.enumerating.proofs.Walks.{Walked, walked_start, walked-point, walked_none, walked_end, walked-is, if-fits, if-above}
+use Rattle.enumerating.proofs.Walks.{Walked}
 use Rattle.enumerating.proofs.if_fitting.Given as goal
 
 abbrev pub invariant-loop-to : goal.invariant-loop-to

@@ -1,14 +1,13 @@
 -- `enumerating::next_fitting` meets its contract. The loop's invariant: from the number that is
 -- reached on the search finds what it finds from its start.
-use Prim.Native.Nat.{◌-◌, ◌^◌}
-use mathlib.Core.Path.{◌≡◌, sym, ◌∙◌}
+use Prim.Native.Nat.{◌-◌}
+use mathlib.Core.Path.{sym, ◌∙◌}
 use native.Mathlib.Nat.{one-mul}
 use native.Mathlib.Omega.{arith}
 use lib.Dec.{lit<}
 use lib.Pow.{shl_exact}
-use borrow.Author.Rules.{rules}
 use Rattle.enumerating.specs.Table.{fit_in, number_in}
-use Rattle.enumerating.proofs.Searching.{Reached, reached-start, reached-next, reached-list, reached-end}
+use Rattle.enumerating.proofs.Searching.{reached-start, reached-next, reached-list, reached-end}
 use Rattle.enumerating.proofs.next_fitting.Goals as goal
 
 pub loop-number-init : goal.loop-number-init

@@ -1,12 +1,10 @@
 -- `replaying::count_misses` meets its contract. Both loops keep the walk's state after the blocks and reads passed, and the points that are left.
-use Prim.Native.Nat.{suc, ◌+◌, ◌-◌, ◌*◌, ◌≤◌, ◌<◌}
+use Prim.Native.Nat.{suc, ◌+◌, ◌<◌}
 use mathlib.Core.Path.{◌≡◌, refl, sym, ◌∙◌}
-use mathlib.Core.Logic.{⊎_elim}
 use native.Mathlib.Nat.{add-zero}
 use native.Mathlib.Omega.{arith}
 use native.Mathlib.Numerals.{add-one}
 use lib.ListN.{length, get_or}
-use borrow.Author.Rules.{rules}
 use Rattle.model.specs.Task.{block_count}
 use Rattle.model.specs.Lines.{block_at}
 use Rattle.model.specs.Lists.{steps, right_point}
@@ -15,9 +13,9 @@ use Rattle.model.proofs.ReadOrder.{edge, edge-suc}
 use Rattle.taskfile.specs.File.{task_of}
 use Rattle.taskfile.proofs.Accepted as accepted-file
 use Rattle.cacheline.proofs.Below.{line-below}
-use Rattle.replaying.proofs.Steps.{Replayed, PointsLeft, at-start, read-skip, read_more, pass-edge, at-end}
+use Rattle.replaying.proofs.Steps.{at-start, read-skip, read_more, pass-edge, at-end}
 use Rattle.replaying.proofs.count_misses.Goals as goal
-use Rattle.replaying.proofs.count_misses.Goals.{In-Cached}
+use Rattle.replaying.proofs.count_misses.Goals.{in-Uncached, in-Cached, In-Cached}
 
 pub loop-i-init : goal.loop-i-init
 loop-i-init c =
@@ -86,24 +84,24 @@ loop-j-preserved c =
     let number_is : get_or (block_at t outer.i).reads inner.j 0 ≡ number.result = rw reads-are (sym number.ensures) in
     let is = sym (line.ensures.0 t cache.ensures) in
     let next : edge t outer.i + (inner.j + 1) ≡ suc (edge t outer.i + inner.j) = omega arith in
-    ⊎_elim
-    (λ w.
-    rw (w.2, w.3, w.4, w.5, next) (
+    elim c.match-line_of.branch [
+    | in-Uncached w ↦
+    rw (w.alone-is, w.preempted-is, w.held-is, w.since-is, next) (
       omega (arith, taken),
       omega (arith, inner.invariant.1),
       omega (arith, inner.invariant.2),
-      read-skip t ps number.result inside counted number_is outer.invariant.3 inner.invariant.3 (is ∙ w.1.given.1),
-    ))
-    (λ w.
-    let on = w.1.given.0.0 in
-    rw (w.7, w.8, w.9, w.10, next) (
+      read-skip t ps number.result inside counted number_is outer.invariant.3 inner.invariant.3 (is ∙ w.in-Uncached.is),
+    )
+    | in-Cached w ↦
+    let on = w.in-Cached.c in
+    rw (w.alone-is, w.preempted-is, w.held-is, w.since-is, next) (
       omega (arith, taken),
-      omega (arith, inner.invariant.1, w.5.ensures.1),
-      omega (arith, inner.invariant.2, w.6.ensures.1),
-      read_more t ps number.result inside counted number_is outer.invariant.3 inner.invariant.3 on (outer.i + 1) _ _ (line-below line.result on w.1.given.1 line.ensures.1)
-          (is ∙ w.1.given.1) (add-one outer.i) w.5.ensures.0 (w.6.ensures.0 ∙ rw (w.4.ensures, marks on) refl),
-    ))
-    c.match-line_of.branch
+      omega (arith, inner.invariant.1, w.missed-alone.ensures.1),
+      omega (arith, inner.invariant.2, w.missed-preempted.ensures.1),
+      read_more t ps number.result inside counted number_is outer.invariant.3 inner.invariant.3 on (outer.i + 1) _ _ (line-below line.result on w.in-Cached.is line.ensures.1)
+          (is ∙ w.in-Cached.is) (add-one outer.i) w.missed-alone.ensures.0 (w.missed-preempted.ensures.0 ∙ rw (w.is_lost-lost.ensures, marks on) refl),
+    )
+    ]
 
 pub loop-i-preserved : goal.loop-i-preserved
 loop-i-preserved c =

@@ -1,21 +1,8 @@
 -- `replaying::count_misses` meets its contract. Both loops keep the walk's state after the blocks and reads passed, and the points that are left.
-use Prim.Native.Nat.{suc, ◌+◌, ◌-◌, ◌*◌, ◌≤◌, ◌<◌}
-use mathlib.Core.Path.{◌≡◌, refl, sym, ◌∙◌}
-use mathlib.Core.Logic.{⊎_elim}
-use native.Mathlib.Nat.{add-zero}
-use native.Mathlib.Omega.{arith}
-use native.Mathlib.Numerals.{add-one}
-use lib.ListN.{length, get_or}
-use borrow.Author.Rules.{rules}
-use Rattle.model.specs.Task.{block_count}
-use Rattle.model.specs.Lines.{block_at}
-use Rattle.model.specs.Lists.{steps, right_point}
-use Rattle.model.proofs.Lists.{none-lowest}
-use Rattle.model.proofs.ReadOrder.{edge, edge-suc}
+use Prim.Native.Nat.{◌+◌, ◌-◌, ◌*◌, ◌≤◌}
+use Rattle.model.proofs.ReadOrder.{edge}
 use Rattle.taskfile.specs.File.{task_of}
-use Rattle.taskfile.proofs.Accepted as accepted-file
-use Rattle.cacheline.proofs.Below.{line-below}
-use Rattle.replaying.proofs.Steps.{Replayed, PointsLeft, at-start, read-skip, read_more, pass-edge, at-end}
+use Rattle.replaying.proofs.Steps.{Replayed, PointsLeft}
 use Rattle.replaying.proofs.count_misses.Given as goal
 
 abbrev pub invariant-loop-j : goal.invariant-loop-j

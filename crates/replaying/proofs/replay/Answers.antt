@@ -1,7 +1,6 @@
 -- `replaying::replay` meets its contract, answer by answer.
 use Prim.Native.Nat.{ℕ}
 use mathlib.Core.Path.{◌≡◌, refl, sym, ap, ◌∙◌}
-use borrow.Author.Rules.{rules}
 use Rattle.model.specs.Task.{block_count}
 use Rattle.model.specs.Lists.{wrong_point}
 use Rattle.model.specs.declared.Verdict.TheVariants.{Accepted}
@@ -36,9 +35,9 @@ count_misses-requires c = (accepted (goal.at.count_misses-requires c).In-Accepte
 pub returns-in-At : goal.returns-in-At
 unfolding replay_verdict misses_alone_of misses_with_of
 returns-in-At c =
-    rw (c.no_misses-in-At.ensures, accepted (goal.at.returns-in-At c).In-Accepted, wrong (goal.at.returns-in-At c).After-wrong_point ∙ c.in-At.is) (refl, (refl, refl))
+    rw (c.no_misses-in-At.ensures, accepted (goal.at.returns-in-At c).In-Accepted, wrong (goal.at.returns-in-At c).After-wrong_point ∙ c.in-At.is) (record { verdict_value = refl; alone_value = refl; preempted_value = refl })
 
 pub returns-in-Nowhere : goal.returns-in-Nowhere
 unfolding replay_verdict misses_alone_of misses_with_of
 returns-in-Nowhere c =
-    rw (c.count_misses.ensures, accepted (goal.at.returns-in-Nowhere c).In-Accepted, wrong (goal.at.returns-in-Nowhere c).After-wrong_point ∙ c.in-Nowhere.is) (refl, (refl, refl))
+    rw (c.count_misses.ensures, accepted (goal.at.returns-in-Nowhere c).In-Accepted, wrong (goal.at.returns-in-Nowhere c).After-wrong_point ∙ c.in-Nowhere.is) (record { verdict_value = refl; alone_value = refl; preempted_value = refl })

@@ -1,0 +1,19 @@
+-- `showing::put_blocks` meets its contract: the blocks that are left are the rest of the text.
+use native.Mathlib.Omega.{arith}
+use borrow.Author.Rules.{rules}
+use Prim.Native.Nat.{suc, ◌-◌, ◌≤◌}
+use mathlib.Core.Path.{◌≡◌, refl}
+use native.Mathlib.Numerals.{add-one}
+use lib.ListN.{length, drop, drop_of_length-le}
+use Rattle.model.specs.Lines.{block_at}
+use Rattle.taskfile.specs.File.{task_of}
+use Rattle.showing.specs.Text.{block_text, blocks_text}
+use Rattle.showing.proofs.Laws.{Left, Next, all_left, next, room, put_next, all-put}
+use Rattle.showing.proofs.Entries.{blocks-next}
+use Rattle.showing.proofs.put_blocks.Given as goal
+
+abbrev pub invariant-loop-i : goal.invariant-loop-i
+invariant-loop-i l = (l.i ≤ l.count) × (length l.out ≡ length l.initial.out) × Left l.initial.out l.at (blocks_text (task_of l.file).blocks) l.out l.next (blocks_text (drop l.i (task_of l.file).blocks))
+
+abbrev pub decreases-loop-i : goal.decreases-loop-i
+decreases-loop-i l = l.count - l.i

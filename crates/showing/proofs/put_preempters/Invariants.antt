@@ -1,0 +1,19 @@
+-- `showing::put_preempters` meets its contract: the preempters that are left are the rest of the text.
+use native.Mathlib.Omega.{arith}
+use borrow.Author.Rules.{rules}
+use Prim.Native.Nat.{suc, ◌-◌, ◌≤◌}
+use mathlib.Core.Path.{◌≡◌, refl}
+use native.Mathlib.Numerals.{add-one}
+use lib.ListN.{length, get_or, drop, drop_of_length-le}
+use Rattle.model.specs.Task.{no_preempter}
+use Rattle.taskfile.specs.File.{task_of}
+use Rattle.showing.specs.Text.{preempter_text, preempters_text}
+use Rattle.showing.proofs.Laws.{Left, Next, all_left, next, room, put_next, all-put}
+use Rattle.showing.proofs.Entries.{preempters-next}
+use Rattle.showing.proofs.put_preempters.Given as goal
+
+abbrev pub invariant-loop-i : goal.invariant-loop-i
+invariant-loop-i l = (l.i ≤ l.count) × (length l.out ≡ length l.initial.out) × Left l.initial.out l.at (preempters_text (task_of l.file).preempters) l.out l.next (preempters_text (drop l.i (task_of l.file).preempters))
+
+abbrev pub decreases-loop-i : goal.decreases-loop-i
+decreases-loop-i l = l.count - l.i

@@ -1,5 +1,4 @@
 -- `showing::check` meets its contract: the file's refusal, and then the output's.
-use borrow.Author.Rules.{rules}
 use mathlib.Core.Path.{refl, sym, ◌∙◌}
 use Rattle.showing.specs.Calls.{room_row}
 use Rattle.showing.proofs.check.Goals as goal

@@ -1,6 +1,5 @@
 -- `showing::put_block` meets its contract: its line, by whether the sampler is armed.
 use native.Mathlib.Omega.{arith}
-use borrow.Author.Rules.{rules}
 use Prim.Native.Nat.{◌+◌}
 use mathlib.Core.Path.{◌≡◌}
 use mathlib.Core.Bool.{cond}

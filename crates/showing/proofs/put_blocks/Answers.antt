@@ -1,14 +1,14 @@
 -- `showing::put_blocks` meets its contract: the blocks that are left are the rest of the text.
 use native.Mathlib.Omega.{arith}
 use borrow.Author.Rules.{rules}
-use Prim.Native.Nat.{suc, ◌-◌, ◌≤◌}
-use mathlib.Core.Path.{◌≡◌, refl}
+use Prim.Native.Nat.{suc}
+use mathlib.Core.Path.{refl}
 use native.Mathlib.Numerals.{add-one}
-use lib.ListN.{length, drop, drop_of_length-le}
+use lib.ListN.{drop, drop_of_length-le}
 use Rattle.model.specs.Lines.{block_at}
 use Rattle.taskfile.specs.File.{task_of}
 use Rattle.showing.specs.Text.{block_text, blocks_text}
-use Rattle.showing.proofs.Laws.{Left, Next, all_left, next, room, put_next, all-put}
+use Rattle.showing.proofs.Laws.{Next, all_left, next, room, put_next, all-put}
 use Rattle.showing.proofs.Entries.{blocks-next}
 use Rattle.showing.proofs.put_blocks.Goals as goal
 use Rattle.showing.proofs.put_blocks.Goals.{In-loop-i}

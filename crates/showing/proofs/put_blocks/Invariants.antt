@@ -1,15 +1,10 @@
 -- `showing::put_blocks` meets its contract: the blocks that are left are the rest of the text.
-use native.Mathlib.Omega.{arith}
-use borrow.Author.Rules.{rules}
-use Prim.Native.Nat.{suc, ◌-◌, ◌≤◌}
-use mathlib.Core.Path.{◌≡◌, refl}
-use native.Mathlib.Numerals.{add-one}
-use lib.ListN.{length, drop, drop_of_length-le}
-use Rattle.model.specs.Lines.{block_at}
+use Prim.Native.Nat.{◌-◌, ◌≤◌}
+use mathlib.Core.Path.{◌≡◌}
+use lib.ListN.{length, drop}
 use Rattle.taskfile.specs.File.{task_of}
-use Rattle.showing.specs.Text.{block_text, blocks_text}
-use Rattle.showing.proofs.Laws.{Left, Next, all_left, next, room, put_next, all-put}
-use Rattle.showing.proofs.Entries.{blocks-next}
+use Rattle.showing.specs.Text.{blocks_text}
+use Rattle.showing.proofs.Laws.{Left}
 use Rattle.showing.proofs.put_blocks.Given as goal
 
 abbrev pub invariant-loop-i : goal.invariant-loop-i

@@ -1,6 +1,5 @@
 -- `showing::put_entry` meets its contract: the word with the first number, the others, and the line feed.
 use native.Mathlib.Omega.{arith}
-use borrow.Author.Rules.{rules}
 use mathlib.Core.Path.{refl}
 use mathlib.Core.List.{[], ◌∷◌}
 use Rattle.taskfile.specs.File.{entry_reads}

@@ -1,6 +1,5 @@
 -- `showing::put_header` meets its contract: line by line.
 use native.Mathlib.Omega.{arith}
-use borrow.Author.Rules.{rules}
 use mathlib.Core.Path.{refl}
 use mathlib.Core.List.{[], ◌∷◌}
 use Rattle.showing.specs.Puts.{limits_text}

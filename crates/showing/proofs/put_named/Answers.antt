@@ -1,6 +1,5 @@
 -- `showing::put_named` meets its contract: the word, and then the number.
 use native.Mathlib.Omega.{arith}
-use borrow.Author.Rules.{rules}
 use mathlib.Core.Path.{refl}
 use mathlib.Core.List.{◌∷◌}
 use lib.ListN.{length-append}

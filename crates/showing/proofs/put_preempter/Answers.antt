@@ -1,6 +1,5 @@
 -- `showing::put_preempter` meets its contract: its line.
 use native.Mathlib.Omega.{arith}
-use borrow.Author.Rules.{rules}
 use Rattle.taskfile.proofs.Accepted.{accepted, block-count, preempter-count}
 use Rattle.showing.proofs.Entries.{preempter-line}
 use Rattle.showing.proofs.put_preempter.Goals as goal

@@ -1,14 +1,14 @@
 -- `showing::put_preempters` meets its contract: the preempters that are left are the rest of the text.
 use native.Mathlib.Omega.{arith}
 use borrow.Author.Rules.{rules}
-use Prim.Native.Nat.{suc, ◌-◌, ◌≤◌}
-use mathlib.Core.Path.{◌≡◌, refl}
+use Prim.Native.Nat.{suc}
+use mathlib.Core.Path.{refl}
 use native.Mathlib.Numerals.{add-one}
-use lib.ListN.{length, get_or, drop, drop_of_length-le}
+use lib.ListN.{get_or, drop, drop_of_length-le}
 use Rattle.model.specs.Task.{no_preempter}
 use Rattle.taskfile.specs.File.{task_of}
 use Rattle.showing.specs.Text.{preempter_text, preempters_text}
-use Rattle.showing.proofs.Laws.{Left, Next, all_left, next, room, put_next, all-put}
+use Rattle.showing.proofs.Laws.{Next, all_left, next, room, put_next, all-put}
 use Rattle.showing.proofs.Entries.{preempters-next}
 use Rattle.showing.proofs.put_preempters.Goals as goal
 use Rattle.showing.proofs.put_preempters.Goals.{In-loop-i}

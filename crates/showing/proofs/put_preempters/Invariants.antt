@@ -1,15 +1,10 @@
 -- `showing::put_preempters` meets its contract: the preempters that are left are the rest of the text.
-use native.Mathlib.Omega.{arith}
-use borrow.Author.Rules.{rules}
-use Prim.Native.Nat.{suc, ◌-◌, ◌≤◌}
-use mathlib.Core.Path.{◌≡◌, refl}
-use native.Mathlib.Numerals.{add-one}
-use lib.ListN.{length, get_or, drop, drop_of_length-le}
-use Rattle.model.specs.Task.{no_preempter}
+use Prim.Native.Nat.{◌-◌, ◌≤◌}
+use mathlib.Core.Path.{◌≡◌}
+use lib.ListN.{length, drop}
 use Rattle.taskfile.specs.File.{task_of}
-use Rattle.showing.specs.Text.{preempter_text, preempters_text}
-use Rattle.showing.proofs.Laws.{Left, Next, all_left, next, room, put_next, all-put}
-use Rattle.showing.proofs.Entries.{preempters-next}
+use Rattle.showing.specs.Text.{preempters_text}
+use Rattle.showing.proofs.Laws.{Left}
 use Rattle.showing.proofs.put_preempters.Given as goal
 
 abbrev pub invariant-loop-i : goal.invariant-loop-i

@@ -1,6 +1,5 @@
 -- `showing::put_setting` meets its contract: the word with the number, and then the line feed.
 use native.Mathlib.Omega.{arith}
-use borrow.Author.Rules.{rules}
 use mathlib.Core.List.{[], ◌∷◌}
 use Rattle.showing.specs.Text.{line_feed, spaced}
 use Rattle.showing.proofs.Lines.{line-begins, line-length}

@@ -1,5 +1,4 @@
 -- `showing::put_spaced` meets its contract: the space, and then the digits.
-use borrow.Author.Rules.{rules}
 use mathlib.Core.Path.{refl}
 use mathlib.Core.List.{[], ◌∷◌}
 use Rattle.showing.specs.Text.{space}

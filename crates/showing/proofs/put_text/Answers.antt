@@ -1,6 +1,5 @@
 -- `showing::put_text` meets its contract: the header, the basic blocks and the preempters.
 use native.Mathlib.Omega.{arith}
-use borrow.Author.Rules.{rules}
 use mathlib.Core.Path.{refl, ap}
 use lib.ListN.{length}
 use Rattle.model.specs.declared.Header.{Header}

@@ -1,12 +1,12 @@
 -- `showing::put_word` meets its contract: the bytes that are left are the rest of the text.
 use borrow.Author.Rules.{rules}
-use Prim.Native.Nat.{suc, ◌-◌, ◌≤◌}
-use mathlib.Core.Path.{◌≡◌, refl}
+use Prim.Native.Nat.{suc}
+use mathlib.Core.Path.{refl}
 use mathlib.Core.List.{[], ◌∷◌}
 use native.Mathlib.Numerals.{add-one}
-use lib.ListN.{length, get_or, drop, drop_of_length-le}
+use lib.ListN.{get_or, drop, drop_of_length-le}
 use lib.Seq.{drop-cons}
-use Rattle.showing.proofs.Laws.{Left, Next, all_left, next, room, put_next, all-put}
+use Rattle.showing.proofs.Laws.{Next, all_left, next, room, put_next, all-put}
 use Rattle.showing.proofs.put_word.Goals as goal
 use Rattle.showing.proofs.put_word.Goals.{In-loop-i}
 

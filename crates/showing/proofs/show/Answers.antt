@@ -1,6 +1,5 @@
 -- `showing::show` meets its contract: where nothing is refused, the text is put into the output, which has room for it.
 use native.Mathlib.Omega.{arith}
-use borrow.Author.Rules.{rules}
 use Prim.Native.Nat.{ℕ}
 use mathlib.Core.Path.{◌≡◌, refl, sym, ap, ◌∙◌}
 use lib.ListN.{length}
@@ -36,4 +35,4 @@ returns-in-Accepted c =
 pub returns-in-Refused : goal.returns-in-Refused
 unfolding show_answer show_output
 returns-in-Refused c =
-    rw (← decided (goal.at.returns-in-Refused c).After-check-verdict, c.in-Refused.is) (refl, refl)
+    rw (← decided (goal.at.returns-in-Refused c).After-check-verdict, c.in-Refused.is) record { value = refl; out_after = refl }

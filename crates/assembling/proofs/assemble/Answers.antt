@@ -1,16 +1,12 @@
 -- `assembling::assemble` meets its contract: the output, the text, and then the file of its task.
 use native.Mathlib.Omega.{arith}
-use borrow.Author.Rules.{rules}
-use mathlib.Core.Path.{◌≡◌, refl, sym, ap, ◌∙◌}
+use mathlib.Core.Path.{◌≡◌, sym, ap, ◌∙◌}
 use Prim.Native.Nat.{ℕ}
 use lib.ListN.{length}
 use Rattle.model.specs.declared.Place.TheVariants.{Nowhere}
-use Rattle.model.specs.Answers.{output_row}
 use Rattle.model.specs.declared.Verdict.TheVariants.{Accepted}
 use Rattle.model.proofs.Verdicts.{output-size}
 use Rattle.assembling.specs.Drafts.{draft_in}
-use Rattle.assembling.specs.Steps.{Knows, Stored}
-use Rattle.assembling.specs.Limits.{Drafted}
 use Rattle.assembling.proofs.Limits.{text-drafted}
 use Rattle.assembling.proofs.Closing.{header-lines, assemble-refused, assemble-accepted, output-refused, line_refused, text-accepted}
 use Rattle.assembling.proofs.assemble.Goals as goal

@@ -1,12 +1,7 @@
 -- `assembling::blanks_end` meets its contract: the loop's invariant is the run so far.
-use Prim.Native.Nat.{◌-◌}
-use native.Mathlib.Omega.{arith}
-use borrow.Author.Rules.{rules}
-use borrow.Author.Tests.{not-true, not-false}
 use mathlib.Core.Path.{sym, ◌∙◌}
-use lib.ListN.{length}
 use Rattle.assembling.specs.Words.{is_blank}
-use Rattle.assembling.proofs.Spans.{Runs, run_none, run_more, run_ends, run_out}
+use Rattle.assembling.proofs.Spans.{run_none, run_more, run_ends, run_out}
 use Rattle.assembling.proofs.blanks_end.Goals as goal
 
 pub loop-i-init : goal.loop-i-init

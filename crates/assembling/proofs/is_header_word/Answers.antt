@@ -2,7 +2,6 @@
 use Prim.Native.Nat.{ℕ, suc, ◌≤◌}
 use mathlib.Core.Path.{◌≡◌}
 use native.Mathlib.Omega.{arith}
-use borrow.Author.Rules.{rules}
 use Rattle.assembling.proofs.Reading.{no-header-word}
 use Rattle.assembling.proofs.is_header_word.Goals as goal
 
@@ -32,6 +31,7 @@ above k n h e = omega arith
 
 pub returns : goal.returns
 returns c =
+    let n = c.args.given in
     let two = above 1 n (above 0 n (omega arith) c.if-given-eq0.false) c.if-given-eq1.false in
     let four = above 3 n (above 2 n two c.if-given-eq2.false) c.if-given-eq3.false in
     let six = above 5 n (above 4 n four c.if-given-eq4.false) c.if-given-eq5.false in

@@ -1,5 +1,4 @@
 -- `assembling::is_word_byte` meets its contract.
-use borrow.Author.Rules.{rules}
 use Rattle.assembling.specs.Words.{is_hash, is_word_byte}
 use Rattle.assembling.proofs.is_word_byte.Goals as goal
 

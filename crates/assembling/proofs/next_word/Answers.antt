@@ -1,5 +1,4 @@
 -- `assembling::next_word` meets its contract: blanks, and then a word.
-use borrow.Author.Rules.{rules}
 use Rattle.assembling.proofs.Spans.{first_word}
 use Rattle.assembling.proofs.next_word.Goals as goal
 

@@ -1,11 +1,7 @@
 -- `assembling::read_lines` meets its contract.
-use native.Mathlib.Omega.{arith}
-use borrow.Author.Rules.{rules}
-use Prim.Native.Nat.{ℕ, ◌+◌, ◌-◌}
-use mathlib.Core.Path.{◌≡◌, refl, sym, ◌∙◌}
-use borrow.Author.Tests.{not-true, not-false}
+use Prim.Native.Nat.{◌+◌, ◌-◌}
 use lib.ListN.{length}
-use Rattle.assembling.proofs.Lines.{ReadTo, read_none, read-wrong, read_more, read_all, read_whole, read_short}
+use Rattle.assembling.proofs.Lines.{ReadTo}
 use Rattle.assembling.proofs.read_lines.Given as goal
 
 abbrev pub invariant-loop-at : goal.invariant-loop-at

@@ -1,9 +1,8 @@
 -- `assembling::read_numbers` meets its contract. The loop's invariant: the words so far are numbers, whose values the array holds, and the others are left.
-use Prim.Native.Nat.{◌-◌, ◌≤◌, ◌<◌}
-use mathlib.Core.Path.{◌≡◌, sym, ap, ◌∙◌}
+use Prim.Native.Nat.{◌-◌, ◌<◌}
+use mathlib.Core.Path.{◌≡◌, sym, ◌∙◌}
 use mathlib.Core.List.{◌∷◌}
 use native.Mathlib.Omega.{arith}
-use borrow.Author.Rules.{rules}
 use lib.ListN.{length, drop, length-drop}
 use lib.Seq.{length-take-le}
 use Rattle.assembling.specs.Words.{words_of}
@@ -38,13 +37,13 @@ long c h =
 pub returns-in_default : goal.returns-in_default
 returns-in_default c =
     seen-wrong _ (long (goal.at.returns-in_default c).After-next_word-word c.if-start-end.false) (left (goal.at.returns-in_default c).After-next_word-word c.if-start-end.false)
-    (sym c.number_of_lem.ensures ∙ c.in_default.is)
+    (sym c.number_of.ensures ∙ c.in_default.is)
 
 pub returns-then-count-eq125 : goal.returns-then-count-eq125
 returns-then-count-eq125 c = seen-full _ (left (goal.at.returns-then-count-eq125 c).After-next_word-word c.if-start-end.false) c.if-count-eq125.true
 
 pub overflow_cast-numbers : goal.overflow_cast-numbers
-overflow_cast-numbers c = omega (arith, number_small _ _ (sym c.number_of_lem.ensures ∙ c.in-Number.is))
+overflow_cast-numbers c = omega (arith, number_small _ _ (sym c.number_of.ensures ∙ c.in-Number.is))
 
 pub loop-at-smaller : goal.loop-at-smaller
 loop-at-smaller c =
@@ -55,5 +54,5 @@ loop-at-preserved c =
     (
       c.next_word-word.ensures.within,
       seen_more _ _ (left (goal.at.loop-at-preserved c).After-next_word-word c.if-start-end.false)
-          (sym c.number_of_lem.ensures ∙ c.in-Number.is) (omega (arith, c.loop-at.invariant.1.few, c.if-count-eq125.false)),
+          (sym c.number_of.ensures ∙ c.in-Number.is) (omega (arith, c.loop-at.invariant.1.few, c.if-count-eq125.false)),
     )

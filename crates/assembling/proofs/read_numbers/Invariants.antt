@@ -1,14 +1,8 @@
 -- `assembling::read_numbers` meets its contract. The loop's invariant: the words so far are numbers, whose values the array holds, and the others are left.
-use Prim.Native.Nat.{◌-◌, ◌≤◌, ◌<◌}
-use mathlib.Core.Path.{◌≡◌, sym, ap, ◌∙◌}
-use mathlib.Core.List.{◌∷◌}
-use native.Mathlib.Omega.{arith}
-use borrow.Author.Rules.{rules}
-use lib.ListN.{length, drop, length-drop}
-use lib.Seq.{length-take-le}
+use Prim.Native.Nat.{◌-◌, ◌≤◌}
+use lib.ListN.{length, drop}
 use Rattle.assembling.specs.Words.{words_of}
-use Rattle.assembling.specs.Steps.{between}
-use Rattle.assembling.proofs.Reading.{Seen, seen_none, seen_more, seen_all, seen-wrong, seen-full, number_small}
+use Rattle.assembling.proofs.Reading.{Seen}
 use Rattle.assembling.proofs.read_numbers.Given as goal
 
 abbrev pub invariant-loop-at : goal.invariant-loop-at

@@ -1,7 +1,4 @@
 -- `assembling::take_header` meets its contract, test by test.
-use native.Mathlib.Omega.{arith}
-use borrow.Author.Rules.{rules}
-use borrow.Author.Tests.{not-true, not-false}
 use mathlib.Core.Path.{refl, sym, ◌∙◌}
 use mathlib.Core.Bool.{false≢true}
 use Rattle.assembling.proofs.take_header.Goals as goal

@@ -72,10 +72,6 @@ module _ (d : Draft) (k : Known) (knows : Knows d k) (whole : Drafted d) where
   pub header-lines : get_or k.header 1 0 ≤ 512
   header-lines = rw numbers-are (whole.right.lines (omega (arith, whole.all))).1
 
--- a file that is copied to the front of an output
-pub copied : (src out new file : List ℕ) (n : ℕ) → n ≡ length src → src ≡ file → new ≡ take n src ++ drop n out → new ≡ file ++ drop (length file) out
-copied src out new file n e s c = c ∙ rw (e, s, take_all (length file) file (omega arith)) refl
-
 -- what the call answers and leaves, by its verdict
 
 pub assemble-refused : (text out : List ℕ) (x : Refusal) → assemble_verdict text out ≡ Refused x

@@ -23,7 +23,7 @@ make-requires c =
     let right : c.read_lines-outcome.result.place ≡ Nowhere = c.in-Nowhere.is in
     let known = c.read_lines-outcome.ensures.knows right in
     let whole = text-drafted c.args.text.now (sym c.read_lines-outcome.ensures.place_value ∙ right) in (
-      omega (arith, c.file-2-1.given),
+      omega arith,
       output-size 49664 (length c.args.out.now) (sym c.check_output-checked.ensures ∙ c.in-Accepted.is),
       c.read_lines-outcome.ensures.blocks_bound.0,
       c.read_lines-outcome.ensures.blocks_bound.1,

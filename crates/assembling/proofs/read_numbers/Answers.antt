@@ -50,9 +50,8 @@ loop-at-smaller c =
     omega (arith, c.next_word-word.ensures.later, c.next_word-word.ensures.rising, c.next_word-word.ensures.within, c.if-start-end.false)
 
 pub loop-at-preserved : goal.loop-at-preserved
-loop-at-preserved c =
-    (
-      c.next_word-word.ensures.within,
-      seen_more _ _ (left (goal.at.loop-at-preserved c).After-next_word-word c.if-start-end.false)
-          (sym c.number_of.ensures ∙ c.in-Number.is) (omega (arith, c.loop-at.invariant.1.few, c.if-count-eq125.false)),
-    )
+loop-at-preserved c = (
+  c.next_word-word.ensures.within,
+  seen_more _ _ (left (goal.at.loop-at-preserved c).After-next_word-word c.if-start-end.false)
+      (sym c.number_of.ensures ∙ c.in-Number.is) (omega (arith, c.loop-at.invariant.1.few, c.if-count-eq125.false)),
+)

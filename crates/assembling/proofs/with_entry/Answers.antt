@@ -24,9 +24,12 @@ returns c =
     let from = number * 512 in
     let few = left (goal.at.returns c).Start in
     let put = c.put_block in
-    let long : length c.put_block.new.block ≡ 512 = c.put_block.auto.block ∙ simp (length-take, length-drop) (omega arith) in record { knows = λ d knows stored. (
+    let long : length c.put_block.new.block ≡ 512 = c.put_block.auto.block ∙ simp (length-take, length-drop) (omega arith) in record {
+      knows = λ d knows stored. (
         c.counted.ensures.0 d c.args.numbers.now knows,
         entry_more d c.args.kind c.args.numbers.now c.args.file.now c.put_block.new.block from (from + 512 - from)
             (rw (knows.blocks, knows.preempters) at c.requires.preempters_value.0) (omega (arith, knows.blocks, knows.preempters)) (omega arith) long stored
             (rw (number_is knows.blocks knows.preempters) at put.ensures),
-      ); blocks_bound = (c.counted.ensures.1, c.counted.ensures.2) }
+      );
+      blocks_bound = (c.counted.ensures.1, c.counted.ensures.2);
+    }

@@ -1,25 +1,17 @@
 -- `listing::points_of` meets its contract. The loop's invariant: the points so far and those that are left make the whole list.
--- Assumes nothing.
 use Prim.Native.Nat.{ℕ, suc, ◌+◌, ◌-◌, ◌/◌, ◌%◌, ◌≤◌, ◌<◌}
 use mathlib.Core.Path.{◌≡◌, refl, sym, ap, ap₂, ◌∙◌}
 use mathlib.Core.List.{List, ◌++◌, append-nil, append_assoc}
-use mathlib.Core.Logic.{⊎_elim}
 use native.Mathlib.Numerals.{add-one, lt-add-one}
 use native.Mathlib.Omega.{arith}
 use lib.ListN.{length, take, drop, set, replicate, length-set, length-take, take-append-drop}
 use lib.Seq.{take-suc-set, drop-set-lt, drop-drop}
 use Rattle.enumerating.specs.Numbers.{list_of}
 use Rattle.listing.specs.Calls.{in_array}
-use Rattle.enumerating.proofs.Walks.{left, point-left, none_left, end-left}
-use Rattle.listing.proofs.points_of.Statement.{statement}
-use Rattle.listing.proofs.points_of.Tie as tie
-
--- the first points of the list of number m are stored, zeros follow them, and the points from edge to on are left
-record Collected (n m : ℕ) (points : List ℕ) (count to rest : ℕ) : Type 0 where
-  edge : count < to
-  long : length points ≡ 16
-  beyond : drop count points ≡ replicate (16 - count) 0
-  so_far : list_of n m ≡ take count points ++ left n to rest
+use Rattle.enumerating.proofs.Walks.{point-left, none_left, end-left}
+use Rattle.listing.proofs.points_of.Goals as goal
+use Rattle.listing.proofs.points_of.Goals.{then-bits-eq1, else-bits-eq1}
+use Rattle.listing.proofs.points_of.Invariants.{Collected}
 
 fewer-zeros : (l : List ℕ) (i m : ℕ) → drop i l ≡ replicate (suc m) 0 → drop (i + 1) l ≡ replicate m 0
 fewer-zeros l i m e = sym (drop-drop 1 i l) ∙ ap (drop 1) e
@@ -59,58 +51,19 @@ module _ {n m : ℕ} {points : List ℕ} {count to rest : ℕ} (few : n ≤ 16) 
       let many : count ≡ length (list_of n m) = omega (arith, ap length is, length-take count points, r.long, r.edge) in
       (many, sym (take-append-drop count points) ∙ ap₂ ◌++◌ (sym is) (r.beyond ∙ ap (λ (k : ℕ). replicate (16 - k) 0) many))
 
-abbrev invariant-loop : tie.invariant-loop
-invariant-loop number blocks points₀ count₀ bits₀ to₀ points count bits to =
-    (to ≤ blocks) × Collected blocks number points count to bits
+pub loop-to-init : goal.loop-to-init
+loop-to-init c = (omega arith, record { edge = omega arith; long = refl; beyond = refl; so_far = refl })
 
-abbrev decreases-loop : tie.decreases-loop
-decreases-loop number blocks points₀ count₀ bits₀ to₀ points count bits to = blocks - to
-
-loop-holds : tie.Need-loop-init invariant-loop decreases-loop
-loop-holds c = (omega arith, record { edge = omega arith; long = refl; beyond = refl; so_far = refl })
-
-cast-points : tie.Need-overflow-cast-points invariant-loop decreases-loop
-cast-points c = omega arith
-
-mul-points : tie.Need-overflow-mul-points invariant-loop decreases-loop
-mul-points c = omega arith
-
-array-write-points : tie.Need-array-write-points invariant-loop decreases-loop
-array-write-points c = omega arith
-
-add-count : tie.Need-overflow-add-count invariant-loop decreases-loop
-add-count c = omega arith
-
-add-to : tie.Need-overflow-add-to invariant-loop decreases-loop
-add-to c = omega arith
-
-loop-less : tie.Need-loop-smaller invariant-loop decreases-loop
-loop-less c = omega arith
-
-loop-again : tie.Need-loop-preserved invariant-loop decreases-loop
-loop-again c =
-    let few = c.before.before.before.requires.1 in
-    let inv = c.before.before.loop.invariant.1 in (
+pub loop-to-preserved : goal.loop-to-preserved
+loop-to-preserved c =
+    let few = c.requires.1 in
+    let inv = c.loop-to.invariant.1 in (
       omega arith,
-      ⊎_elim (λ w. rw (w.1, w.2) (collected-point few inv (omega arith) w.0.taken))
-          (λ w. rw (w.1, w.2) (collected-none few inv (omega arith) w.0.left)) c.if1.branch,
+      elim c.if-bits-eq1.branch [
+        | then-bits-eq1 w ↦ rw (w.points-is, w.count-is) (collected-point few inv (omega arith) w.if-bits-eq1.true)
+        | else-bits-eq1 w ↦ rw (w.points-is, w.count-is) (collected-none few inv (omega arith) w.if-bits-eq1.false)
+      ],
     )
 
-returns : tie.Need-returns invariant-loop decreases-loop
-returns c = collected-all c.before.before.requires.1 c.before.loop.invariant.1 (omega arith)
-
-pub points-of-spec : {M : Type 1} → statement M
-points-of-spec =
-    tie.close
-    (tie.spec
-    invariant-loop
-    decreases-loop
-    loop-holds
-    cast-points
-    mul-points
-    array-write-points
-    add-count
-    add-to
-    loop-less
-    loop-again
-    returns)
+pub returns : goal.returns
+returns c = collected-all c.requires.1 c.loop-to.invariant.1 (omega arith)

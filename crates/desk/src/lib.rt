@@ -4,7 +4,6 @@
 
 ghost use Rattle.std.specs.Prelude.{◌≡◌, ◌+◌, ◌≤◌, length, take, IfOk};
 ghost use Rattle.std.specs.Io.{ReadsAtMost};
-ghost use Rattle.io.specs.Counts.{IsPrefixLen};
 ghost use Rattle.decimals.specs.Decimals.{AtMost};
 
 use decimals::Decimal;
@@ -151,7 +150,8 @@ pub fn read_named(
     i: usize,
     buffer: &mut [u8],
 ) -> io::Result<FileRead>
-    ensures { IfOk result (λ read. IsPrefixLen read.count buffer.new) }
+    ensures in_bounds { IfOk result (λ read. read.count ≤ length buffer.new) }
+    ensures prefix { IfOk result (λ read. read.count ≡ length (take read.count buffer.new)) }
 {
     let mut name = [0u8; 4096];
     let n = fill_argument(rt, i, &mut name);

@@ -1,4 +1,4 @@
--- `regions::CountedRegion::at` meets its contract: no blocks have no time and load no line, and Q counts for them. Assumes nothing.
+-- `regions::CountedRegion::at` meets its contract: no blocks have no time and load no line, and Q counts for them.
 use Prim.Native.Nat.{zero-le}
 use mathlib.Core.Path.{refl, sym, subst}
 use native.Mathlib.Nat.{le_refl}
@@ -6,10 +6,9 @@ use Rattle.model.proofs.Regions.{region-none}
 use Rattle.model.specs.declared.Header.{Header}
 use Rattle.regions.specs.Measures.{RunBetween}
 use Rattle.regions.proofs.Runs.{run_none}
-use Rattle.regions.proofs.CountedRegion.at.Statement.{statement}
-use Rattle.regions.proofs.CountedRegion.at.Tie as tie
+use Rattle.regions.proofs.CountedRegion.at.Goals as goal
 
-returns : tie.Need-returns
+pub returns : goal.returns
 returns c =
     let a = c.args.a in (
       λ t e h. record {
@@ -22,6 +21,3 @@ returns c =
       refl,
       refl,
     )
-
-pub at-spec : {M : Type 1} → statement M
-at-spec = tie.close (tie.spec returns)

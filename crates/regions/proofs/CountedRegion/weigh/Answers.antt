@@ -1,11 +1,9 @@
 -- `regions::CountedRegion::weigh` meets its contract: the sums are those of the definitions, and fit in 64 bits.
--- Assumes nothing.
 use Prim.Native.Nat.{ℕ, ◌+◌, ◌*◌, ◌≤◌, ◌-◌, min}
 use mathlib.Core.Path.{◌≡◌, sym, ap, ap₂, ◌∙◌}
 use mathlib.Core.Bool.{Bool, true, false, cond, not, ◌&&◌, ◌||◌, and-true}
 use native.Mathlib.Omega.{arith}
 use lib.Dec.{eqb, leb}
-use borrow.Author.Rules.{rules}
 use Rattle.model.specs.Task.{Task, second_limit}
 use Rattle.model.specs.Regions.{armed_after, switch_ticks, region_cost, region_length, region_fits}
 use Rattle.model.specs.declared.Header.{Header}
@@ -13,35 +11,20 @@ use Rattle.model.proofs.Regions.{within_both}
 use Rattle.regions.specs.Measures.{Counted}
 use Rattle.regions.specs.declared.CountedRegion.{CountedRegion}
 use Rattle.regions.proofs.Widths.{cost-le}
-use Rattle.regions.proofs.CountedRegion.weigh.Statement.{statement}
-use Rattle.regions.proofs.CountedRegion.weigh.Tie as tie
+use Rattle.regions.proofs.CountedRegion.weigh.Goals as goal
+use Rattle.regions.proofs.CountedRegion.weigh.Goals.{After-struct_known-2-1}
 
-small : (c : tie.After-struct-known2) → c.before.before.args.header.reload * c.before.before.args.self.lines ≤ 4294967295 * 512
-small c = cost-le 512 {reload = c.before.before.args.header.reload} (omega arith) (omega arith)
+small : (c : goal.After-struct_known-2-1) → c.args.header.reload * c.args.self.lines ≤ 4294967295 * 512
+small c = cost-le 512 {reload = c.args.header.reload} (omega arith) (omega arith)
 
-cast-reloads : tie.Need-overflow-cast-reloads
-cast-reloads c = search rules
+pub overflow_mul-reloads : goal.overflow_mul-reloads
+overflow_mul-reloads c = omega (arith, small (goal.at.overflow_mul-reloads c).After-struct_known-2-1)
 
-cast-reloads-2 : tie.Need-overflow-cast-reloads-2
-cast-reloads-2 c = search rules
+pub overflow_add-cost : goal.overflow_add-cost
+overflow_add-cost c = omega (arith, small (goal.at.overflow_add-cost c).After-struct_known-2-1)
 
-mul-reloads : tie.Need-overflow-mul-reloads
-mul-reloads c = omega (arith, small c)
-
-switch-at-requires : tie.Need-switch-at-requires
-switch-at-requires c κs = search rules
-
-cast-cost : tie.Need-overflow-cast-cost
-cast-cost c = search rules
-
-add-cost : tie.Need-overflow-add-cost
-add-cost c = omega (arith, small c.before)
-
-add-length : tie.Need-overflow-add-length
-add-length c = omega (arith, small c.before)
-
-cast-limit : tie.Need-overflow-cast-limit
-cast-limit c = search rules
+pub overflow_add-length : goal.overflow_add-length
+overflow_add-length c = omega (arith, small (goal.at.overflow_add-length c).After-struct_known-2-1)
 
 -- the smaller of the limits that count, and the two of the definition
 within : (armed : Bool) (l q q2 : ℕ) → leb l (cond armed (min q q2) q) ≡ (leb l q && (not armed || leb l q2))
@@ -66,19 +49,14 @@ module _ (t : Task) (header : Header) (e : header ≡ t.header) (r : CountedRegi
       ap₂ leb lasts counted.run.limit_is ∙
       within (armed_after t r.from (r.to - r.from)) (region_length t r.from r.to) t.header.limit (second_limit t)
 
-returns : tie.Need-returns
+pub returns : goal.returns
 returns c =
-    let switch = c.before.switch-at in
-    let start = c.before.before.before.before in
-    let header = start.args.header in
-    let region = start.args.self in
+    let switch = c.switch_at in
+    let header = c.args.header in
+    let region = c.args.self in
     record {
       length = λ t e counted. lasts t header e region switch.result switch.ensures counted;
       cost = λ t e counted. costs t header e region switch.result switch.ensures counted;
       fits = λ t e counted. fits t header e region switch.result switch.ensures counted;
-      small = omega (arith, small c.before.before);
+      small = omega (arith, small (goal.at.returns c).After-struct_known-2-1);
     }
-
-pub weigh-spec : {M : Type 1} → statement M
-weigh-spec =
-    tie.close (tie.spec cast-reloads cast-reloads-2 mul-reloads switch-at-requires cast-cost add-cost add-length cast-limit returns)

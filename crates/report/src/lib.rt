@@ -74,10 +74,8 @@ pub fn print_charges(rt: &impl Print, file: &[u8], charges: [u32; 32]) -> io::Re
     requires { IsAccepted file.now }
 {
     let count = taskfile::preempter_count(file);
-    let mut i = 0;
-    while i < count {
+    for i in 0..count {
         print_charge(rt, i, taskfile::preempter_id(file, i), charges[i])?;
-        i += 1;
     }
     Ok(())
 }

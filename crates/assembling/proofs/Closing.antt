@@ -1,15 +1,14 @@
 -- A whole draft, whose blocks are stored, becomes the file of its task.
 -- Assumes nothing.
 use Prim.Native.Nat.{ℕ, ◌+◌, ◌*◌, ◌≤◌}
-use mathlib.Core.Path.{◌≡◌, refl, sym, ap, ap₂, ◌∙◌}
-use mathlib.Core.List.{List, [], ◌++◌, map}
+use mathlib.Core.Path.{◌≡◌, refl, sym, ap, ◌∙◌}
+use mathlib.Core.List.{List, [], ◌++◌}
 use native.Mathlib.Omega.{arith}
-use lib.ListN.{length, get_or, take, drop, length-drop, length-map, length-append, take-append-drop}
+use lib.ListN.{length, get_or, take, drop, length-drop, take-append-drop}
 use lib.Seq.{drop-append-le, length-take-le, take_all, take_at}
 use Rattle.model.specs.Task.{Task, block_count}
-use Rattle.model.specs.declared.Header.{Header}
 use Rattle.block.proofs.Sealing.{sealed-front}
-use Rattle.taskfile.specs.File.{IsAccepted, task_of, file_of, basic_bytes, preempter_bytes, Within}
+use Rattle.taskfile.specs.File.{file_of, Within}
 use Rattle.taskfile.proofs.Accepted.{accepted, block-count, preempter-count}
 use Rattle.taskfile.proofs.Tasks.{file-then-task}
 use Rattle.writer.specs.Writing.{Appended, closed_file}
@@ -72,10 +71,6 @@ module _ (d : Draft) (k : Known) (knows : Knows d k) (whole : Drafted d) where
 
   pub header-lines : get_or k.header 1 0 ≤ 512
   header-lines = rw numbers-are (whole.right.lines (omega (arith, whole.all))).1
-
--- a file that is copied to the front of an output
-pub copied : (src out new file : List ℕ) (n : ℕ) → n ≡ length src → src ≡ file → new ≡ take n src ++ drop n out → new ≡ file ++ drop (length file) out
-copied src out new file n e s c = c ∙ rw (e, s, take_all (length file) file (omega arith)) refl
 
 -- what the call answers and leaves, by its verdict
 

@@ -1,20 +1,18 @@
 -- A text read line by line: what the lines so far have come to, and what is left.
 -- Assumes nothing.
-use Prim.Native.Nat.{ℕ, zero, suc, ◌+◌, ◌≤◌, ◌<◌}
-use mathlib.Core.Path.{◌≡◌, refl, sym, ap, ◌∙◌}
-use mathlib.Core.Bool.{Bool, true, false, cond, ◌&&◌, false≢true}
+use Prim.Native.Nat.{ℕ, ◌+◌, ◌≤◌, ◌<◌}
+use mathlib.Core.Path.{◌≡◌, refl, ◌∙◌}
+use mathlib.Core.Bool.{true, false}
 use mathlib.Core.List.{List, [], ◌∷◌}
 use native.Mathlib.Numerals.{add-one}
 use native.Mathlib.Omega.{arith}
-use lib.Dec.{leb, ltb}
-use lib.ListN.{length, drop, take, replicate, drop_of_length-le}
-use Rattle.model.specs.declared.Place.{Place}
+use lib.ListN.{length, drop, drop_of_length-le}
 use Rattle.model.specs.declared.Place.TheVariants.{Nowhere, At}
 use Rattle.block.specs.Blocks.{sealed_blocks}
 use Rattle.taskfile.specs.File.{whole_blocks}
 use Rattle.writer.specs.Writing.{Appended}
 use Rattle.assembling.specs.Words.{is_line_byte, lines_of, words_of}
-use Rattle.assembling.specs.Drafts.{Draft, no_draft, takes, with_words, whole, wrong_line, drafted, wrong_in, draft_in}
+use Rattle.assembling.specs.Drafts.{Draft, no_draft, with_words, whole, wrong_line, drafted, wrong_in, draft_in}
 use Rattle.assembling.specs.Steps.{between, Spans, Knows, Stored, TakesLine}
 use Rattle.assembling.specs.declared.Known.{Known}
 use Rattle.assembling.specs.declared.Taken.{Taken}

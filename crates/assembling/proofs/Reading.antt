@@ -1,7 +1,7 @@
 -- The numbers of a line's words: what a word says, and the words read so far.
 -- Assumes nothing.
-use Prim.Native.Nat.{ℕ, zero, suc, ◌+◌, ◌≤◌, ◌<◌}
-use mathlib.Core.Path.{◌≡◌, refl, sym, ap, ap₂, ◌∙◌}
+use Prim.Native.Nat.{ℕ, suc, ◌+◌, ◌≤◌, ◌<◌}
+use mathlib.Core.Path.{◌≡◌, refl, sym, ap, ◌∙◌}
 use mathlib.Core.Bool.{Bool, true, false, cond, ◌&&◌, and-eq-true_iff, and-false, and_assoc, false≢true}
 use mathlib.Core.Logic.{by_cases}
 use mathlib.Core.List.{List, [], ◌∷◌, ◌++◌, map, append_assoc, append-nil}
@@ -15,11 +15,9 @@ use lib.Seq.{take-suc-set, drop-cons}
 use Rattle.model.specs.Lists.{same_list}
 use Rattle.model.proofs.Lists.{same-list}
 use Rattle.decimals.specs.Decimals.{all_digits, value, decimal_of}
-use Rattle.decimals.specs.declared.Decimal.{Decimal}
 use Rattle.decimals.specs.declared.Decimal.TheVariants.{Number, Nothing}
 use Rattle.assembling.specs.Drafts.{is_number, all_numbers, header_words, header_word}
 use Rattle.assembling.specs.Steps.{number_in, NumbersRead}
-use Rattle.assembling.specs.declared.Numbers.{Numbers}
 
 -- a word that says a number of 64 bits says it here too if it is small enough
 

@@ -1,26 +1,25 @@
 -- The text of a task within the limits has no wrong line, and says that task: line after line, the draft grows by what the line was written of.
 -- Assumes nothing.
-use Prim.Native.Nat.{ℕ, zero, suc, ◌+◌, ◌*◌, ◌^◌, ◌≤◌, ◌<◌}
-use mathlib.Core.Path.{◌≡◌, refl, sym, ap, ap₂, subst, ◌∙◌}
-use mathlib.Core.Bool.{Bool, true, false, cond, not, ◌&&◌, and-eq-true_iff}
+use Prim.Native.Nat.{ℕ, suc, ◌+◌, ◌≤◌, ◌<◌}
+use mathlib.Core.Path.{◌≡◌, refl, sym, ap, subst, ◌∙◌}
+use mathlib.Core.Bool.{Bool, true, false, cond, ◌&&◌, and-eq-true_iff}
 use mathlib.Core.List.{List, [], ◌∷◌, ◌++◌, map, append_assoc, append-nil}
 use native.Mathlib.Nat.{add-suc, add-zero, suc-add}
 use native.Mathlib.Omega.{arith}
-use borrow.Author.Tests.{leb-true, le-leb, lt-ltb, le-ltb, eq-eqb}
+use borrow.Author.Tests.{leb-true, le-leb, lt-ltb, le-ltb}
 use lib.Dec.{eqb, leb, ltb}
-use lib.ListN.{length, get_or, length-append}
+use lib.ListN.{length, length-append}
 use Rattle.model.specs.Task.{Block, Preempter, Task, block_count, line_count}
 use Rattle.model.specs.Lists.{same_list}
 use Rattle.model.specs.declared.Header.{Header}
-use Rattle.model.specs.declared.Place.{Place}
 use Rattle.model.specs.declared.Place.TheVariants.{Nowhere, At}
 use Rattle.block.specs.Bytes.{Each}
 use Rattle.taskfile.specs.File.{counts_in_range, scratch_in_range, header_in_range, header_numbers, EntryWithin, Within}
 use Rattle.taskfile.proofs.Accepted.{in-range}
-use Rattle.decimals.specs.Decimals.{value, spelled}
+use Rattle.decimals.specs.Decimals.{spelled}
 use Rattle.showing.specs.Text.{line_text, task_word, lines_word, limit_word, sampler_word, reload_word, switch_word, scratch_word, block_word, armed_word, preempter_word, header_text, block_text, blocks_text, preempter_text, preempters_text, text_of}
-use Rattle.assembling.specs.Words.{is_blank, is_hash, is_word_byte, is_line_byte, lines_of, words_of}
-use Rattle.assembling.specs.Drafts.{Draft, no_draft, all_numbers, header_word, header_right, takes_header, kind_of, room_for, takes_entry, takes, with_numbers, with_entry, with_words, whole, wrong_line, drafted, wrong_in, draft_in, header_from, task_from}
+use Rattle.assembling.specs.Words.{is_blank, is_hash, is_word_byte, is_line_byte, lines_of}
+use Rattle.assembling.specs.Drafts.{Draft, no_draft, header_word, header_right, kind_of, room_for, takes_entry, takes, with_numbers, with_entry, with_words, wrong_line, drafted, wrong_in, draft_in}
 use Rattle.assembling.specs.Steps.{all_are}
 use Rattle.assembling.specs.Limits.{Small}
 use Rattle.assembling.specs.declared.Kind.{Kind}

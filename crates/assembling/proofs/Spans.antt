@@ -2,7 +2,7 @@
 -- Assumes nothing.
 use Prim.Native.Nat.{ℕ, zero, suc, ◌+◌, ◌-◌, ◌≤◌, ◌<◌}
 use mathlib.Core.Path.{◌≡◌, refl, sym, ap, ◌∙◌}
-use mathlib.Core.Bool.{Bool, true, false, cond, not, ◌&&◌, ◌||◌, and-eq-true_iff, false≢true}
+use mathlib.Core.Bool.{Bool, true, false, not, ◌&&◌, and-eq-true_iff, false≢true}
 use mathlib.Core.Logic.{by_cases}
 use mathlib.Core.List.{List, [], ◌∷◌, ◌++◌, append-nil}
 use native.Mathlib.Nat.{le_refl}
@@ -11,12 +11,11 @@ use native.Mathlib.Numerals.{add-one}
 use native.Mathlib.Omega.{arith}
 use lib.Dec.{eqb}
 use borrow.Author.Tests.{eqb-true}
-use lib.ListN.{length, get_or, take, drop, length-drop, take-append-drop}
+use lib.ListN.{length, get_or, drop, length-drop, take-append-drop}
 use lib.Seq.{drop-cons, drop-drop, drop-nil, drop-length, length-take-le, take-suc, get_or-drop}
 use Rattle.showing.specs.Text.{line_feed}
 use Rattle.assembling.specs.Words.{is_blank, is_hash, is_word_byte, is_line_byte, in_front, lines_of, goes_on, words_of}
 use Rattle.assembling.specs.Steps.{all_are, between, Spans, FirstWord}
-use Rattle.assembling.specs.declared.Word.{Word}
 
 -- one byte more at the end of a run
 all-last : (f : ℕ → Bool) (xs : List ℕ) (b : ℕ) → all_are f xs ≡ true → f b ≡ true → all_are f (xs ++ (b ∷ [])) ≡ true

@@ -1,18 +1,18 @@
 -- The text of a task, read: its lines are those that were written, and their words the word and the numbers.
 -- Assumes nothing.
-use Prim.Native.Nat.{ℕ, zero, suc, ◌+◌, ◌*◌, ◌^◌, ◌≤◌, ◌<◌}
-use mathlib.Core.Path.{◌≡◌, refl, sym, ap, ap₂, ◌∙◌}
-use mathlib.Core.Bool.{Bool, true, false, cond, not, ◌&&◌, ◌||◌, and-eq-true_iff, false≢true}
-use mathlib.Core.List.{List, [], ◌∷◌, ◌++◌, map, append_assoc, append-nil}
+use Prim.Native.Nat.{ℕ, ◌<◌}
+use mathlib.Core.Path.{◌≡◌, refl, ap, ap₂, ◌∙◌}
+use mathlib.Core.Bool.{Bool, true, false, and-eq-true_iff}
+use mathlib.Core.List.{List, [], ◌∷◌, ◌++◌, map, append_assoc}
 use native.Mathlib.Omega.{arith}
-use borrow.Author.Tests.{leb-true, eqb-true, le-leb, ne_eqb}
-use lib.Dec.{eqb, leb, ltb}
-use lib.ListN.{length, length-map}
+use borrow.Author.Tests.{leb-true, le-leb, ne_eqb}
+use lib.Dec.{eqb, leb}
+use lib.ListN.{length}
 use Rattle.block.specs.Bytes.{Each}
 use Rattle.decimals.specs.Decimals.{is_digit, all_digits, value, spelled}
 use Rattle.decimals.proofs.Spelling.{Spells, spelled-spells}
-use Rattle.showing.specs.Text.{line_feed, space, spaced, line_text}
-use Rattle.assembling.specs.Words.{is_blank, is_hash, is_word_byte, is_line_byte, in_front, lines_of, goes_on, words_of}
+use Rattle.showing.specs.Text.{line_feed, spaced, line_text}
+use Rattle.assembling.specs.Words.{is_blank, is_hash, is_word_byte, is_line_byte, lines_of, goes_on, words_of}
 use Rattle.assembling.specs.Drafts.{is_number, all_numbers}
 use Rattle.assembling.specs.Steps.{all_are}
 use Rattle.assembling.specs.Limits.{Small}

@@ -570,6 +570,6 @@ fn make(file: &mut [u8], known: Known, out: &mut [u8]) -> usize
     ensures { (d : Draft) → Knows d known → Drafted d → Stored d file.old → (result ≡ length (file_of (task_from d))) × (out.new ≡ file_of (task_from d) ++ drop (length (file_of (task_from d))) out.old) }
 {
     let size = close(file, known);
-    bytes::copy(&file[..size], out);
+    out[..size].copy_from_slice(&file[..size]);
     size
 }

@@ -5,7 +5,7 @@ use mathlib.Core.Path.{◌≡◌, refl, ap}
 use mathlib.Core.List.{List, [], ◌∷◌, ◌++◌, append_assoc, append-nil}
 use native.Mathlib.Omega.{arith}
 use lib.ListN.{length, take, drop, replicate, length-append, length-replicate}
-use lib.Seq.{take_at, take-take, take-length, drop_at, drop-drop, length-take-le}
+use lib.Seq.{take_at, take-take, drop_at, drop-drop, length-take-le}
 use Rattle.fnv.specs.Fnv.{fnv1a}
 use Rattle.block.specs.Bytes.{le, Each}
 use Rattle.block.specs.Blocks.{numbered, sealed}
@@ -16,11 +16,8 @@ use Rattle.taskfile.proofs.Tasks.{Room, length_whole}
 use Rattle.writer.specs.Writing.{Appended, bodies, copies}
 
 -- what `copy_block` copies
-pub copied-front : (source block new : List ℕ) → length source ≡ 512
-    → new ≡ take (length (take 504 source)) (take 504 source) ++ drop (length (take 504 source)) block → take 504 new ≡ take 504 source
-copied-front source block new l p =
-    let long : length (take 504 source) ≡ 504 = length-take-le 504 source (omega arith) in
-    rw (p, take-length) (take_at (take 504 source) (drop (length (take 504 source)) block) 504 long)
+pub copied-front : (source front rest : List ℕ) → length source ≡ 512 → front ≡ take 504 source → take 504 (front ++ rest) ≡ take 504 source
+copied-front source front rest l p = rw p (take_at (take 504 source) rest 504 (length-take-le 504 source (omega arith)))
 
 -- block i of a source
 pub body_at : (i s w : ℕ) (bs : List ℕ) → s ≡ 512 * i → w ≡ 512 → take 504 (take w (drop s bs)) ≡ take 504 (drop (512 * i) bs)

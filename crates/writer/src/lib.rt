@@ -84,7 +84,7 @@ fn copy_block(block: &mut [u8], source: &[u8], number: u32)
     requires { (length block.old ≡ 512) × (length source.now ≡ 512) }
     ensures { take 508 block.new ≡ numbered number (take 504 source.now) }
 {
-    bytes::copy(&source[..504], block);
+    block[..504].copy_from_slice(&source[..504]);
     block::close_body(block, 504, number);
 }
 

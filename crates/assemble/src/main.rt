@@ -4,6 +4,7 @@
 ghost use Rattle.std.specs.Prelude.{◌≡◌, length};
 
 use model::Verdict;
+use std::io;
 
 // The longest text that is read.
 const MOST_BYTES: usize = 262144;
@@ -15,34 +16,33 @@ fn text_buffer() -> [u8; 262145]
     [0; 262145]
 }
 
-fn print_file(text: &[u8]) {
+fn print_file(rt: &(impl Print + Eprint), text: &[u8]) -> io::Result<()> {
     let mut file = [0u8; 49664];
     let made = assembling::assemble(text, &mut file);
     let verdict = made.verdict;
     match verdict {
-        Verdict::Accepted => desk::print_page(&file, made.length),
+        Verdict::Accepted => desk::print_page(rt, &file, made.length),
         Verdict::Refused(refusal) => {
-            desk::report_refusal(refusal, answers::refusal_place(refusal));
+            desk::report_refusal(rt, refusal, answers::refusal_place(refusal))
         }
     }
 }
 
-fn print_usage() {
+fn print_usage(rt: &impl Eprint) -> io::Result<()> {
     desk::print_usage(
+        rt,
         b"assemble < TEXT > FILE   TEXT: the text of a task, at most 262144 bytes; FILE: its task file",
-    );
+    )
 }
 
-fn main() {
-    if 0 < desk::argument_count() {
-        print_usage();
-        return;
+fn main(rt: HostRuntime) -> io::Result<()> {
+    if 0 < desk::argument_count(&rt) {
+        return print_usage(&rt);
     }
     let mut text = text_buffer();
-    let n = desk::read_input(&mut text);
+    let n = desk::read_input(&rt, &mut text)?;
     if MOST_BYTES < n {
-        print_usage();
-        return;
+        return print_usage(&rt);
     }
-    print_file(&text[..n]);
+    print_file(&rt, &text[..n])
 }

@@ -1,20 +1,19 @@
 // Published vectors of 32-bit FNV-1a: each text in quotes, and its hash in hexadecimal.
 #![tactic(auto)]
 
-use libc::STDOUT_FILENO;
+use std::io;
 
-fn print_vector(text: &[u8]) {
-    io::write_all(STDOUT_FILENO, b"\"");
-    io::write_all(STDOUT_FILENO, text);
-    io::write_all(STDOUT_FILENO, b"\" ");
-    io::print_hex(STDOUT_FILENO, fnv::hash(text) as u64, 8);
-    io::write_all(STDOUT_FILENO, b"\n");
+fn print_vector(rt: &impl Print, text: &[u8]) -> io::Result<()> {
+    rt.write_all(b"\"")?;
+    rt.write_all(text)?;
+    let hash = fnv::hash(text);
+    println!(rt; "\" {hash:08x}")
 }
 
-fn main() {
-    print_vector(b"");
-    print_vector(b"a");
-    print_vector(b"b");
-    print_vector(b"c");
-    print_vector(b"foobar");
+fn main(rt: HostRuntime) -> io::Result<()> {
+    print_vector(&rt, b"")?;
+    print_vector(&rt, b"a")?;
+    print_vector(&rt, b"b")?;
+    print_vector(&rt, b"c")?;
+    print_vector(&rt, b"foobar")
 }

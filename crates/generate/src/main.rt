@@ -4,6 +4,7 @@
 ghost use Rattle.std.specs.Prelude.{◌≤◌};
 
 use model::Verdict;
+use std::io;
 
 // A number below 2^32, which each argument is asked to be, in four bytes.
 fn four_bytes(number: u64) -> u32 {
@@ -19,7 +20,7 @@ fn file_length(blocks: u32, preempters: u32) -> usize
 }
 
 // Writes the file, or says why there is none.
-fn write_file(given: [u64; 6], file: &mut [u8]) {
+fn write_file(rt: &(impl Print + Eprint), given: [u64; 6], file: &mut [u8]) -> io::Result<()> {
     let verdict = testload::generate(
         four_bytes(given[0]),
         four_bytes(given[1]),
@@ -30,20 +31,22 @@ fn write_file(given: [u64; 6], file: &mut [u8]) {
         file,
     );
     match verdict {
-        Verdict::Accepted => desk::print(file),
-        Verdict::Refused(refusal) => desk::report_refusal(refusal, answers::refusal_place(refusal)),
+        Verdict::Accepted => desk::print(rt, file),
+        Verdict::Refused(refusal) => {
+            desk::report_refusal(rt, refusal, answers::refusal_place(refusal))
+        }
     }
 }
 
-fn main() {
+fn main(rt: HostRuntime) -> io::Result<()> {
     let mut given = [0u64; 6];
-    if !desk::arguments(&mut given, 4294967295) {
-        desk::print_usage(
+    if !desk::arguments(&rt, &mut given, 4294967295) {
+        return desk::print_usage(
+            &rt,
             b"generate SEED N M S Q R > FILE   SEED: a number, the id too; N: basic blocks, 1 to 64; M: preempters, 0 to 32; S: cache lines, 1 to 512; Q: the limit in ticks; R: ticks of a reload; FILE: a task file; all below 4294967296",
         );
-        return;
     }
-    let mut file = io::large_buffer();
+    let mut file = [0u8; 65536];
     let n = file_length(four_bytes(given[1]), four_bytes(given[2]));
-    write_file(given, &mut file[..n]);
+    write_file(&rt, given, &mut file[..n])
 }

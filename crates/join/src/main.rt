@@ -4,6 +4,7 @@
 ghost use Rattle.std.specs.Prelude.{◌≤◌};
 
 use model::Verdict;
+use std::io;
 
 // The bytes of the joined file: both, with one header. Where they are more than the largest buffer has, joining refuses all the same.
 fn joined_length(first: usize, second: usize) -> usize
@@ -19,33 +20,39 @@ fn joined_length(first: usize, second: usize) -> usize
 }
 
 // Writes the joined file, or says why there is none.
-fn write_joined(first: &[u8], second: &[u8], out: &mut [u8]) {
+fn write_joined(
+    rt: &(impl Print + Eprint),
+    first: &[u8],
+    second: &[u8],
+    out: &mut [u8],
+) -> io::Result<()> {
     let joined = joining::join(first, second, out);
     let verdict = joined.verdict;
     match verdict {
-        Verdict::Accepted => desk::print(out),
-        Verdict::Refused(refusal) => desk::report_refusal(refusal, joined.place),
+        Verdict::Accepted => desk::print(rt, out),
+        Verdict::Refused(refusal) => desk::report_refusal(rt, refusal, joined.place),
     }
 }
 
-fn main() {
-    if os::arg_count() != 3 {
-        desk::print_usage(
+fn main(rt: HostRuntime) -> io::Result<()> {
+    if desk::argument_count(&rt) != 2 {
+        return desk::print_usage(
+            &rt,
             b"join FIRST SECOND > FILE   FIRST, SECOND: names of two task files; FILE: the task file of both",
         );
-        return;
     }
-    let mut first = io::large_buffer();
-    let read = desk::read_named(1, &mut first);
-    let mut second = io::large_buffer();
-    let other = desk::read_named(2, &mut second);
+    let mut first = [0u8; 65536];
+    let read = desk::read_named(&rt, 1, &mut first)?;
+    let mut second = [0u8; 65536];
+    let other = desk::read_named(&rt, 2, &mut second)?;
     if read.found {
         if other.found {
-            let mut out = io::large_buffer();
+            let mut out = [0u8; 65536];
             let a = read.count;
             let b = other.count;
             let n = joined_length(a, b);
-            write_joined(&first[..a], &second[..b], &mut out[..n]);
+            return write_joined(&rt, &first[..a], &second[..b], &mut out[..n]);
         }
     }
+    Ok(())
 }

@@ -3,39 +3,40 @@
 #![tactic(auto)]
 
 use model::{Next, Verdict};
+use std::io;
 
-fn print_next(next: Next) {
+fn print_next(rt: &impl Print, next: Next) -> io::Result<()> {
     match next {
-        Next::Read(number) => desk::print_field(b"read ", number as u64),
-        Next::Never => desk::print(b"none"),
+        Next::Read(number) => desk::print_field(rt, b"read ", number as u64),
+        Next::Never => desk::print(rt, b"none"),
     }
 }
 
-fn print_found(next: Next, looked: usize) {
-    print_next(next);
-    desk::print_field(b" looked ", looked as u64);
-    desk::end_line();
+fn print_found(rt: &impl Print, next: Next, looked: usize) -> io::Result<()> {
+    print_next(rt, next)?;
+    desk::print_field(rt, b" looked ", looked as u64)?;
+    desk::end_line(rt)
 }
 
-fn print_answer(file: &[u8], line: usize, k: usize) {
+fn print_answer(rt: &impl Print, file: &[u8], line: usize, k: usize) -> io::Result<()> {
     let found = planner::next_read(file, line, k);
     let verdict = found.verdict;
     let next = found.next;
     match verdict {
-        Verdict::Accepted => print_found(next, found.looked),
-        Verdict::Refused(refusal) => desk::print_refusal(refusal),
+        Verdict::Accepted => print_found(rt, next, found.looked),
+        Verdict::Refused(refusal) => desk::print_refusal(rt, refusal),
     }
 }
 
-fn main() {
+fn main(rt: HostRuntime) -> io::Result<()> {
     let mut given = [0u64; 2];
-    if !desk::arguments(&mut given, 0xffff_ffff_ffff_ffff) {
-        desk::print_usage(
+    if !desk::arguments(&rt, &mut given, 0xffff_ffff_ffff_ffff) {
+        return desk::print_usage(
+            &rt,
             b"next_read LINE K < FILE   LINE: a cache line, from 0; K: an edge, 0 to N; FILE: a task file of N basic blocks",
         );
-        return;
     }
-    let mut file = io::large_buffer();
-    let n = desk::read_input(&mut file);
-    print_answer(&file[..n], given[0] as usize, given[1] as usize);
+    let mut file = [0u8; 65536];
+    let n = desk::read_input(&rt, &mut file)?;
+    print_answer(&rt, &file[..n], given[0] as usize, given[1] as usize)
 }

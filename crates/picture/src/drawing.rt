@@ -3,6 +3,8 @@
 // of a pixel, from 0 to its width.
 ghost use Rattle.std.specs.Prelude.{◌≡◌, ◌≤◌, min, max};
 
+use std::io;
+
 // The width of the scale.
 const WIDTH: u64 = 80000;
 
@@ -101,16 +103,28 @@ fn extent_of(from: u64, ticks: u64, span: u64) -> Extent
 }
 
 // Text and a number.
-pub fn collect_field(page: &mut [u8], held: usize, text: &[u8], n: u64) -> usize {
-    let named = desk::collect(page, held, text);
-    desk::collect_number(page, named, n)
+pub fn collect_field(
+    rt: &impl Print,
+    page: &mut [u8],
+    held: usize,
+    text: &[u8],
+    n: u64,
+) -> io::Result<usize> {
+    let named = desk::collect(rt, page, held, text)?;
+    desk::collect_number(rt, page, named, n)
 }
 
 // Text and a place, in pixels with two decimals.
-fn collect_place(page: &mut [u8], held: usize, text: &[u8], place: u64) -> usize {
-    let whole = collect_field(page, held, text, place / 100);
-    let tenths = collect_field(page, whole, b".", place / 10 % 10);
-    desk::collect_number(page, tenths, place % 10)
+fn collect_place(
+    rt: &impl Print,
+    page: &mut [u8],
+    held: usize,
+    text: &[u8],
+    place: u64,
+) -> io::Result<usize> {
+    let whole = collect_field(rt, page, held, text, place / 100)?;
+    let tenths = collect_field(rt, page, whole, b".", place / 10 % 10)?;
+    desk::collect_number(rt, page, tenths, place % 10)
 }
 
 // Where row i begins.
@@ -128,16 +142,23 @@ fn rows_height(rows: u64) -> u64
 }
 
 // A picture of so many rows; its title is to follow.
-pub fn begin_picture(page: &mut [u8], held: usize, rows: u64) -> usize {
+pub fn begin_picture(
+    rt: &impl Print,
+    page: &mut [u8],
+    held: usize,
+    rows: u64,
+) -> io::Result<usize> {
     let height = row_top(rows) + 30;
     let held = desk::collect(
+        rt,
         page,
         held,
         b"<svg xmlns=\"http://www.w3.org/2000/svg\" width=\"1000\"",
-    );
-    let held = collect_field(page, held, b" height=\"", height);
-    let held = collect_field(page, held, b"\" viewBox=\"0 0 1000 ", height);
+    )?;
+    let held = collect_field(rt, page, held, b" height=\"", height)?;
+    let held = collect_field(rt, page, held, b"\" viewBox=\"0 0 1000 ", height)?;
     desk::collect(
+        rt,
         page,
         held,
         b"\" font-family=\"sans-serif\" font-size=\"13\">\n",
@@ -145,34 +166,40 @@ pub fn begin_picture(page: &mut [u8], held: usize, rows: u64) -> usize {
 }
 
 // The colours. Those of blocks, reloads and switches are told apart by their brightness too.
-pub fn collect_style(page: &mut [u8], held: usize) -> usize {
-    let held = desk::collect(page, held, b"<style>\n");
+pub fn collect_style(rt: &impl Print, page: &mut [u8], held: usize) -> io::Result<usize> {
+    let held = desk::collect(rt, page, held, b"<style>\n")?;
     let held = desk::collect(
+        rt,
         page,
         held,
         b".light{fill:#b9d9f0}.dark{fill:#6aa7d6}.reloads{fill:#c2410c}.switch{fill:#222}.armed{fill:#7a0177}\n",
-    );
+    )?;
     let held = desk::collect(
+        rt,
         page,
         held,
         b".track{fill-opacity:.06}.tick{stroke:#000;stroke-opacity:.2}.Q{stroke:#000;stroke-width:2}\n",
-    );
+    )?;
     let held = desk::collect(
+        rt,
         page,
         held,
         b".Q2{stroke:#7a0177;stroke-width:5;stroke-dasharray:3 3}.task{font-size:18px;font-weight:bold}\n",
-    );
+    )?;
     let held = desk::collect(
+        rt,
         page,
         held,
         b".small{font-size:11px}.number{font-size:10px;text-anchor:middle}.middle{text-anchor:middle}.end{text-anchor:end}\n",
-    );
+    )?;
     let held = desk::collect(
+        rt,
         page,
         held,
         b".name{paint-order:stroke;stroke:#fff;stroke-width:3px}\n",
-    );
+    )?;
     desk::collect(
+        rt,
         page,
         held,
         b"</style>\n<rect width=\"100%\" height=\"100%\" fill=\"#fff\"/>\n",
@@ -180,33 +207,39 @@ pub fn collect_style(page: &mut [u8], held: usize) -> usize {
 }
 
 // What the colours are, and what stands on the left and on the right.
-pub fn collect_legend(page: &mut [u8], held: usize) -> usize {
+pub fn collect_legend(rt: &impl Print, page: &mut [u8], held: usize) -> io::Result<usize> {
     let held = desk::collect(
+        rt,
         page,
         held,
         b"<g class=\"small legend\" transform=\"translate(80,44)\">\n",
-    );
+    )?;
     let held = desk::collect(
+        rt,
         page,
         held,
         b"<rect class=\"light\" width=\"18\" height=\"14\"/><rect class=\"dark\" x=\"18\" width=\"18\" height=\"14\"/><text x=\"42\" y=\"11\">blocks</text>\n",
-    );
+    )?;
     let held = desk::collect(
+        rt,
         page,
         held,
         b"<rect class=\"light\" x=\"100\" width=\"18\" height=\"14\"/><rect class=\"armed\" x=\"100\" y=\"-3\" width=\"18\" height=\"3\"/><text x=\"124\" y=\"11\">armed block</text>\n",
-    );
+    )?;
     let held = desk::collect(
+        rt,
         page,
         held,
         b"<rect class=\"reloads\" x=\"210\" width=\"18\" height=\"14\"/><text x=\"234\" y=\"11\">reloads</text>\n",
-    );
+    )?;
     let held = desk::collect(
+        rt,
         page,
         held,
         b"<rect class=\"switch\" x=\"300\" width=\"18\" height=\"14\"/><text x=\"324\" y=\"11\">switch</text>\n</g>\n",
-    );
+    )?;
     desk::collect(
+        rt,
         page,
         held,
         b"<text class=\"small end\" x=\"72\" y=\"108\">edges</text><text class=\"small end\" x=\"980\" y=\"108\">length</text>\n",
@@ -244,145 +277,205 @@ fn step_of(span: u64) -> u64
 }
 
 // A number of the scale and its line.
-fn collect_tick(page: &mut [u8], held: usize, tick: u64, span: u64, bottom: u64) -> usize
+fn collect_tick(
+    rt: &impl Print,
+    page: &mut [u8],
+    held: usize,
+    tick: u64,
+    span: u64,
+    bottom: u64,
+) -> io::Result<usize>
     requires { bottom ≤ 1280 }
 {
     let place = place_of(tick, span);
-    let held = collect_place(page, held, b"<line class=\"tick\" x1=\"", place);
-    let held = collect_place(page, held, b"\" x2=\"", place);
-    let held = collect_field(page, held, b"\" y2=\"", bottom);
-    let held = collect_place(page, held, b"\"/><text class=\"small middle\" x=\"", place);
-    let held = collect_field(page, held, b"\" y=\"", bottom + 14);
-    let held = collect_field(page, held, b"\">", tick);
-    desk::collect(page, held, b"</text>\n")
+    let held = collect_place(rt, page, held, b"<line class=\"tick\" x1=\"", place)?;
+    let held = collect_place(rt, page, held, b"\" x2=\"", place)?;
+    let held = collect_field(rt, page, held, b"\" y2=\"", bottom)?;
+    let held = collect_place(
+        rt,
+        page,
+        held,
+        b"\"/><text class=\"small middle\" x=\"",
+        place,
+    )?;
+    let held = collect_field(rt, page, held, b"\" y=\"", bottom + 14)?;
+    let held = collect_field(rt, page, held, b"\">", tick)?;
+    desk::collect(rt, page, held, b"</text>\n")
 }
 
 // The numbers of the scale from 0 to the last, so many ticks apart.
 fn collect_ticks(
+    rt: &impl Print,
     page: &mut [u8],
     held: usize,
     last: u64,
     step: u64,
     span: u64,
     bottom: u64,
-) -> usize
+) -> io::Result<usize>
     requires { (last ≤ 4398046511104) × (1 ≤ step) × (step ≤ 8796093022208) × (bottom ≤ 1280) }
 {
     let mut held = held;
     let mut tick = 0;
     while tick <= last {
-        held = collect_tick(page, held, tick, span, bottom);
+        held = collect_tick(rt, page, held, tick, span, bottom)?;
         tick += step;
     }
-    held
+    Ok(held)
 }
 
 // The scale, its lines behind the bars and its numbers below them.
-pub fn collect_scale(page: &mut [u8], held: usize, span: u64, rows: u64) -> usize {
+pub fn collect_scale(
+    rt: &impl Print,
+    page: &mut [u8],
+    held: usize,
+    span: u64,
+    rows: u64,
+) -> io::Result<usize> {
     let bottom = rows_height(rows);
     let last = at_most(span, MOST_TICKS);
     let held = desk::collect(
+        rt,
         page,
         held,
         b"<g class=\"scale\" transform=\"translate(80,113)\">\n",
-    );
-    let held = collect_ticks(page, held, last, step_of(span), span, bottom);
+    )?;
+    let held = collect_ticks(rt, page, held, last, step_of(span), span, bottom)?;
     let held = collect_field(
+        rt,
         page,
         held,
         b"<text class=\"small\" x=\"840\" y=\"",
         bottom + 14,
-    );
-    desk::collect(page, held, b"\">ticks</text>\n</g>\n")
+    )?;
+    desk::collect(rt, page, held, b"\">ticks</text>\n</g>\n")
 }
 
 // Row i: the region from edge a to edge b. Its parts are to follow.
-pub fn begin_row(page: &mut [u8], held: usize, i: u64, a: u64, b: u64, length: u64) -> usize {
+pub fn begin_row(
+    rt: &impl Print,
+    page: &mut [u8],
+    held: usize,
+    i: u64,
+    a: u64,
+    b: u64,
+    length: u64,
+) -> io::Result<usize> {
     let held = collect_field(
+        rt,
         page,
         held,
         b"<g class=\"region\" transform=\"translate(80,",
         row_top(i) + 3,
-    );
-    let held = collect_field(page, held, b")\"><title>region ", a);
-    let held = collect_field(page, held, b" ", b);
-    let held = collect_field(page, held, b" length ", length);
+    )?;
+    let held = collect_field(rt, page, held, b")\"><title>region ", a)?;
+    let held = collect_field(rt, page, held, b" ", b)?;
+    let held = collect_field(rt, page, held, b" length ", length)?;
     let held = desk::collect(
+        rt,
         page,
         held,
         b"</title>\n<rect class=\"track\" width=\"800\" height=\"14\"/>\n",
-    );
-    collect_ends(page, held, a, b, length)
+    )?;
+    collect_ends(rt, page, held, a, b, length)
 }
 
 // A region's edges on the left, and its length on the right.
-fn collect_ends(page: &mut [u8], held: usize, a: u64, b: u64, length: u64) -> usize {
+fn collect_ends(
+    rt: &impl Print,
+    page: &mut [u8],
+    held: usize,
+    a: u64,
+    b: u64,
+    length: u64,
+) -> io::Result<usize> {
     let held = collect_field(
+        rt,
         page,
         held,
         b"<text class=\"edges end\" x=\"-8\" y=\"12\">",
         a,
-    );
-    let held = collect_field(page, held, b"&#8211;", b);
+    )?;
+    let held = collect_field(rt, page, held, b"&#8211;", b)?;
     let held = collect_field(
+        rt,
         page,
         held,
         b"</text><text class=\"length end\" x=\"900\" y=\"12\">",
         length,
-    );
-    desk::collect(page, held, b"</text>\n")
+    )?;
+    desk::collect(rt, page, held, b"</text>\n")
 }
 
-pub fn end_row(page: &mut [u8], held: usize) -> usize {
-    desk::collect(page, held, b"</g>\n")
+pub fn end_row(rt: &impl Print, page: &mut [u8], held: usize) -> io::Result<usize> {
+    desk::collect(rt, page, held, b"</g>\n")
 }
 
 // Where a rectangle of a bar stands.
-fn collect_extent(page: &mut [u8], held: usize, left: u64, width: u64) -> usize {
-    let held = collect_place(page, held, b"\" x=\"", left);
-    collect_place(page, held, b"\" width=\"", width)
+fn collect_extent(
+    rt: &impl Print,
+    page: &mut [u8],
+    held: usize,
+    left: u64,
+    width: u64,
+) -> io::Result<usize> {
+    let held = collect_place(rt, page, held, b"\" x=\"", left)?;
+    collect_place(rt, page, held, b"\" width=\"", width)
 }
 
 // The ticks of a part, which are shown when it is pointed at.
-fn end_part(page: &mut [u8], held: usize, ticks: u64) -> usize {
-    let held = collect_field(page, held, b": ", ticks);
-    desk::collect(page, held, b" ticks</title></rect>")
+fn end_part(rt: &impl Print, page: &mut [u8], held: usize, ticks: u64) -> io::Result<usize> {
+    let held = collect_field(rt, page, held, b": ", ticks)?;
+    desk::collect(rt, page, held, b" ticks</title></rect>")
 }
 
 // The shade of a block.
-fn collect_shade(page: &mut [u8], held: usize, dark: bool) -> usize {
+fn collect_shade(rt: &impl Print, page: &mut [u8], held: usize, dark: bool) -> io::Result<usize> {
     if dark {
-        desk::collect(page, held, b"<rect class=\"dark")
+        desk::collect(rt, page, held, b"<rect class=\"dark")
     } else {
-        desk::collect(page, held, b"<rect class=\"light")
+        desk::collect(rt, page, held, b"<rect class=\"light")
     }
 }
 
 // The mark of an armed block, above the bar; a block without ticks has one too.
-fn collect_mark(page: &mut [u8], held: usize, armed: bool, extent: Extent) -> usize {
+fn collect_mark(
+    rt: &impl Print,
+    page: &mut [u8],
+    held: usize,
+    armed: bool,
+    extent: Extent,
+) -> io::Result<usize> {
     if !armed {
-        return held;
+        return Ok(held);
     }
-    let held = desk::collect(page, held, b"<rect class=\"armed");
-    let held = collect_extent(page, held, extent.left, at_least(extent.width, MARK));
-    desk::collect(page, held, b"\" y=\"-3\" height=\"3\"/>")
+    let held = desk::collect(rt, page, held, b"<rect class=\"armed")?;
+    let held = collect_extent(rt, page, held, extent.left, at_least(extent.width, MARK))?;
+    desk::collect(rt, page, held, b"\" y=\"-3\" height=\"3\"/>")
 }
 
 // A block's number, if there is room for it.
-fn collect_label(page: &mut [u8], held: usize, k: u64, extent: Extent) -> usize
+fn collect_label(
+    rt: &impl Print,
+    page: &mut [u8],
+    held: usize,
+    k: u64,
+    extent: Extent,
+) -> io::Result<usize>
     requires { (extent.left ≤ 80000) × (extent.width ≤ 80000) }
 {
     if extent.width < LABELLED {
-        return held;
+        return Ok(held);
     }
     let middle = extent.left + extent.width / 2;
-    let held = collect_place(page, held, b"<text class=\"number\" x=\"", middle);
-    let held = collect_field(page, held, b"\" y=\"12\">", k);
-    desk::collect(page, held, b"</text>")
+    let held = collect_place(rt, page, held, b"<text class=\"number\" x=\"", middle)?;
+    let held = collect_field(rt, page, held, b"\" y=\"12\">", k)?;
+    desk::collect(rt, page, held, b"</text>")
 }
 
 // Block k, of so many ticks behind others.
 pub fn collect_block(
+    rt: &impl Print,
     page: &mut [u8],
     held: usize,
     k: u64,
@@ -391,105 +484,141 @@ pub fn collect_block(
     from: u64,
     ticks: u64,
     span: u64,
-) -> usize {
+) -> io::Result<usize> {
     let extent = extent_of(from, ticks, span);
-    let held = collect_shade(page, held, dark);
-    let held = collect_extent(page, held, extent.left, extent.width);
-    let held = collect_field(page, held, b"\" height=\"14\"><title>block ", k);
-    let held = end_part(page, held, ticks);
-    let held = collect_mark(page, held, armed, extent);
-    let held = collect_label(page, held, k, extent);
-    desk::collect(page, held, b"\n")
+    let held = collect_shade(rt, page, held, dark)?;
+    let held = collect_extent(rt, page, held, extent.left, extent.width)?;
+    let held = collect_field(rt, page, held, b"\" height=\"14\"><title>block ", k)?;
+    let held = end_part(rt, page, held, ticks)?;
+    let held = collect_mark(rt, page, held, armed, extent)?;
+    let held = collect_label(rt, page, held, k, extent)?;
+    desk::collect(rt, page, held, b"\n")
 }
 
 // The reloads or the switch, of so many ticks behind others.
 pub fn collect_cost(
+    rt: &impl Print,
     page: &mut [u8],
     held: usize,
     name: &[u8],
     from: u64,
     ticks: u64,
     span: u64,
-) -> usize {
+) -> io::Result<usize> {
     if ticks == 0 {
-        return held;
+        return Ok(held);
     }
     let extent = extent_of(from, ticks, span);
-    let held = desk::collect(page, held, b"<rect class=\"");
-    let held = desk::collect(page, held, name);
-    let held = collect_extent(page, held, extent.left, extent.width);
-    let held = desk::collect(page, held, b"\" height=\"14\"><title>");
-    let held = desk::collect(page, held, name);
-    let held = end_part(page, held, ticks);
-    desk::collect(page, held, b"\n")
+    let held = desk::collect(rt, page, held, b"<rect class=\"")?;
+    let held = desk::collect(rt, page, held, name)?;
+    let held = collect_extent(rt, page, held, extent.left, extent.width)?;
+    let held = desk::collect(rt, page, held, b"\" height=\"14\"><title>")?;
+    let held = desk::collect(rt, page, held, name)?;
+    let held = end_part(rt, page, held, ticks)?;
+    desk::collect(rt, page, held, b"\n")
 }
 
 // The line of the second limit across the row of a region with an armed block, if it is on the scale.
-pub fn collect_second(page: &mut [u8], held: usize, armed: bool, limit: u64, span: u64) -> usize {
+pub fn collect_second(
+    rt: &impl Print,
+    page: &mut [u8],
+    held: usize,
+    armed: bool,
+    limit: u64,
+    span: u64,
+) -> io::Result<usize> {
     if !armed {
-        return held;
+        return Ok(held);
     }
     if span < limit {
-        return held;
+        return Ok(held);
     }
     let place = place_of(limit, span);
-    let held = collect_place(page, held, b"<line class=\"Q2\" x1=\"", place);
-    let held = collect_place(page, held, b"\" x2=\"", place);
-    desk::collect(page, held, b"\" y1=\"-3\" y2=\"17\"/>\n")
+    let held = collect_place(rt, page, held, b"<line class=\"Q2\" x1=\"", place)?;
+    let held = collect_place(rt, page, held, b"\" x2=\"", place)?;
+    desk::collect(rt, page, held, b"\" y1=\"-3\" y2=\"17\"/>\n")
 }
 
 // Where a limit's name stands: beside its line, or where the scale ends if the limit is beyond.
-fn collect_beside(page: &mut [u8], held: usize, place: u64) -> usize
+fn collect_beside(rt: &impl Print, page: &mut [u8], held: usize, place: u64) -> io::Result<usize>
     requires { place ≤ 80000 }
 {
     if place < WIDTH / 2 {
-        collect_place(page, held, b"\" x=\"", place + 4 * PIXEL)
+        collect_place(rt, page, held, b"\" x=\"", place + 4 * PIXEL)
     } else {
-        collect_place(page, held, b" end\" x=\"", place - 4 * PIXEL)
+        collect_place(rt, page, held, b" end\" x=\"", place - 4 * PIXEL)
     }
 }
 
 // The end of a limit's name, which says so if the limit is beyond the scale.
-fn end_name(page: &mut [u8], held: usize, limit: u64, span: u64) -> usize {
+fn end_name(
+    rt: &impl Print,
+    page: &mut [u8],
+    held: usize,
+    limit: u64,
+    span: u64,
+) -> io::Result<usize> {
     if span < limit {
-        desk::collect(page, held, b" beyond &#8594;</text>\n")
+        desk::collect(rt, page, held, b" beyond &#8594;</text>\n")
     } else {
-        desk::collect(page, held, b"</text>\n")
+        desk::collect(rt, page, held, b"</text>\n")
     }
 }
 
 // A limit's name and number.
-fn collect_name(page: &mut [u8], held: usize, name: &[u8], limit: u64, span: u64) -> usize {
-    let held = collect_beside(page, held, place_of(limit, span));
-    let held = desk::collect(page, held, b"\">limit ");
-    let held = desk::collect(page, held, name);
-    let held = collect_field(page, held, b" ", limit);
-    end_name(page, held, limit, span)
+fn collect_name(
+    rt: &impl Print,
+    page: &mut [u8],
+    held: usize,
+    name: &[u8],
+    limit: u64,
+    span: u64,
+) -> io::Result<usize> {
+    let held = collect_beside(rt, page, held, place_of(limit, span))?;
+    let held = desk::collect(rt, page, held, b"\">limit ")?;
+    let held = desk::collect(rt, page, held, name)?;
+    let held = collect_field(rt, page, held, b" ", limit)?;
+    end_name(rt, page, held, limit, span)
 }
 
 // The line of the limit across all rows.
-fn collect_line(page: &mut [u8], held: usize, limit: u64, span: u64, rows: u64) -> usize {
+fn collect_line(
+    rt: &impl Print,
+    page: &mut [u8],
+    held: usize,
+    limit: u64,
+    span: u64,
+    rows: u64,
+) -> io::Result<usize> {
     if span < limit {
-        return held;
+        return Ok(held);
     }
     let place = place_of(limit, span);
-    let held = collect_place(page, held, b"<line class=\"Q\" x1=\"", place);
-    let held = collect_place(page, held, b"\" x2=\"", place);
-    let held = collect_field(page, held, b"\" y1=\"-20\" y2=\"", rows_height(rows));
-    desk::collect(page, held, b"\"/>\n")
+    let held = collect_place(rt, page, held, b"<line class=\"Q\" x1=\"", place)?;
+    let held = collect_place(rt, page, held, b"\" x2=\"", place)?;
+    let held = collect_field(rt, page, held, b"\" y1=\"-20\" y2=\"", rows_height(rows))?;
+    desk::collect(rt, page, held, b"\"/>\n")
 }
 
 // The name of the second limit, if a block is armed.
-fn collect_second_name(page: &mut [u8], held: usize, second: u64, armed: bool, span: u64) -> usize {
+fn collect_second_name(
+    rt: &impl Print,
+    page: &mut [u8],
+    held: usize,
+    second: u64,
+    armed: bool,
+    span: u64,
+) -> io::Result<usize> {
     if !armed {
-        return held;
+        return Ok(held);
     }
-    let held = desk::collect(page, held, b"<text y=\"-8\" class=\"small name armed");
-    collect_name(page, held, b"Q2", second, span)
+    let held = desk::collect(rt, page, held, b"<text y=\"-8\" class=\"small name armed")?;
+    collect_name(rt, page, held, b"Q2", second, span)
 }
 
 // The limit's line and the names of both.
 pub fn collect_limits(
+    rt: &impl Print,
     page: &mut [u8],
     held: usize,
     limit: u64,
@@ -497,19 +626,20 @@ pub fn collect_limits(
     armed: bool,
     span: u64,
     rows: u64,
-) -> usize {
+) -> io::Result<usize> {
     let held = desk::collect(
+        rt,
         page,
         held,
         b"<g class=\"limits\" transform=\"translate(80,113)\">\n",
-    );
-    let held = collect_line(page, held, limit, span, rows);
-    let held = desk::collect(page, held, b"<text y=\"-24\" class=\"small name");
-    let held = collect_name(page, held, b"Q", limit, span);
-    let held = collect_second_name(page, held, second, armed, span);
-    desk::collect(page, held, b"</g>\n")
+    )?;
+    let held = collect_line(rt, page, held, limit, span, rows)?;
+    let held = desk::collect(rt, page, held, b"<text y=\"-24\" class=\"small name")?;
+    let held = collect_name(rt, page, held, b"Q", limit, span)?;
+    let held = collect_second_name(rt, page, held, second, armed, span)?;
+    desk::collect(rt, page, held, b"</g>\n")
 }
 
-pub fn end_picture(page: &mut [u8], held: usize) -> usize {
-    desk::collect(page, held, b"</svg>\n")
+pub fn end_picture(rt: &impl Print, page: &mut [u8], held: usize) -> io::Result<usize> {
+    desk::collect(rt, page, held, b"</svg>\n")
 }

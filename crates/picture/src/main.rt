@@ -12,6 +12,7 @@ ghost use Rattle.pricing.specs.Prices.{Loads};
 mod drawing;
 
 use model::{Header, Place, Plan, Refusal, Verdict};
+use std::io;
 
 // A region of the plan: its edges, its length, and what of it are reloads and the switch.
 #[derive(Clone, Copy)]
@@ -91,7 +92,15 @@ fn shade_after(dark: bool, ticks: u64) -> bool {
 }
 
 // The blocks after edge a up to edge b.
-fn collect_blocks(page: &mut [u8], held: usize, file: &[u8], a: usize, b: usize, span: u64) -> usize
+fn collect_blocks(
+    rt: &impl Print,
+    page: &mut [u8],
+    held: usize,
+    file: &[u8],
+    a: usize,
+    b: usize,
+    span: u64,
+) -> io::Result<usize>
     requires { IsAccepted file.now × (b ≤ block_count (task_of file.now)) }
 {
     let mut held = held;
@@ -102,11 +111,11 @@ fn collect_blocks(page: &mut [u8], held: usize, file: &[u8], a: usize, b: usize,
         k += 1;
         let ticks = taskfile::time(file, k) as u64;
         let armed = taskfile::armed(file, k);
-        held = drawing::collect_block(page, held, k as u64, armed, dark, at, ticks, span);
+        held = drawing::collect_block(rt, page, held, k as u64, armed, dark, at, ticks, span)?;
         dark = shade_after(dark, ticks);
         at += ticks;
     }
-    held
+    Ok(held)
 }
 
 // The ticks of the switch at the start of a region.
@@ -116,6 +125,7 @@ fn switch_at(header: Header, edge: usize) -> u64 {
 
 // A region in row i.
 fn collect_region(
+    rt: &impl Print,
     page: &mut [u8],
     held: usize,
     file: &[u8],
@@ -123,7 +133,7 @@ fn collect_region(
     region: Region,
     i: usize,
     span: u64,
-) -> usize
+) -> io::Result<usize>
     requires { IsAccepted file.now × (region.to ≤ block_count (task_of file.now)) }
 {
     let from = region.from;
@@ -133,30 +143,32 @@ fn collect_region(
     let reloads = before(region.cost, switch);
     let reloaded = before(length, switch);
     let armed = armed_between(file, from, to);
-    let held = drawing::begin_row(page, held, i as u64, from as u64, to as u64, length);
-    let held = collect_blocks(page, held, file, from, to, span);
+    let held = drawing::begin_row(rt, page, held, i as u64, from as u64, to as u64, length)?;
+    let held = collect_blocks(rt, page, held, file, from, to, span)?;
     let held = drawing::collect_cost(
+        rt,
         page,
         held,
         b"reloads",
         before(reloaded, reloads),
         reloads,
         span,
-    );
-    let held = drawing::collect_cost(page, held, b"switch", reloaded, switch, span);
-    let held = drawing::collect_second(page, held, armed, header.second_limit as u64, span);
-    drawing::end_row(page, held)
+    )?;
+    let held = drawing::collect_cost(rt, page, held, b"switch", reloaded, switch, span)?;
+    let held = drawing::collect_second(rt, page, held, armed, header.second_limit as u64, span)?;
+    drawing::end_row(rt, page, held)
 }
 
 // The regions of a well-formed list.
 fn collect_regions(
+    rt: &impl Print,
     page: &mut [u8],
     held: usize,
     file: &[u8],
     points: &[u16],
     lines: &[u32; 64],
     span: u64,
-) -> usize
+) -> io::Result<usize>
     requires { IsAccepted file.now × (wrong_point (block_count (task_of file.now)) points.now ≡ Place.Nowhere) × Loads (task_of file.now) points.now lines.now }
 {
     let header = taskfile::header(file);
@@ -164,46 +176,47 @@ fn collect_regions(
     let mut i = 0;
     while i <= points.len() {
         let region = region_at(file, points, lines, i);
-        held = collect_region(page, held, file, header, region, i, span);
+        held = collect_region(rt, page, held, file, header, region, i, span)?;
         i += 1;
     }
-    held
+    Ok(held)
 }
 
 // The first line that `plan` prints.
-fn collect_line(page: &mut [u8], held: usize, plan: Plan) -> usize {
-    let held = drawing::collect_field(page, held, b"task ", plan.id as u64);
-    let held = drawing::collect_field(page, held, b" blocks ", plan.blocks as u64);
-    let held = drawing::collect_field(page, held, b" points ", plan.count as u64);
-    let held = drawing::collect_field(page, held, b" lines ", plan.lines as u64);
-    drawing::collect_field(page, held, b" cost ", plan.cost)
+fn collect_line(rt: &impl Print, page: &mut [u8], held: usize, plan: Plan) -> io::Result<usize> {
+    let held = drawing::collect_field(rt, page, held, b"task ", plan.id as u64)?;
+    let held = drawing::collect_field(rt, page, held, b" blocks ", plan.blocks as u64)?;
+    let held = drawing::collect_field(rt, page, held, b" points ", plan.count as u64)?;
+    let held = drawing::collect_field(rt, page, held, b" lines ", plan.lines as u64)?;
+    drawing::collect_field(rt, page, held, b" cost ", plan.cost)
 }
 
 // The picture's title, for a browser's own use.
-fn collect_title(page: &mut [u8], held: usize, plan: Plan) -> usize {
-    let held = desk::collect(page, held, b"<title>");
-    let held = collect_line(page, held, plan);
-    desk::collect(page, held, b"</title>\n")
+fn collect_title(rt: &impl Print, page: &mut [u8], held: usize, plan: Plan) -> io::Result<usize> {
+    let held = desk::collect(rt, page, held, b"<title>")?;
+    let held = collect_line(rt, page, held, plan)?;
+    desk::collect(rt, page, held, b"</title>\n")
 }
 
 // The same line to read.
-fn collect_heading(page: &mut [u8], held: usize, plan: Plan) -> usize {
-    let held = desk::collect(page, held, b"<text class=\"task\" x=\"80\" y=\"30\">");
-    let held = collect_line(page, held, plan);
-    desk::collect(page, held, b"</text>\n")
+fn collect_heading(rt: &impl Print, page: &mut [u8], held: usize, plan: Plan) -> io::Result<usize> {
+    let held = desk::collect(rt, page, held, b"<text class=\"task\" x=\"80\" y=\"30\">")?;
+    let held = collect_line(rt, page, held, plan)?;
+    desk::collect(rt, page, held, b"</text>\n")
 }
 
 // What stands above the bars.
-fn collect_head(page: &mut [u8], plan: Plan, rows: u64) -> usize {
-    let held = drawing::begin_picture(page, 0, rows);
-    let held = collect_title(page, held, plan);
-    let held = drawing::collect_style(page, held);
-    let held = collect_heading(page, held, plan);
-    drawing::collect_legend(page, held)
+fn collect_head(rt: &impl Print, page: &mut [u8], plan: Plan, rows: u64) -> io::Result<usize> {
+    let held = drawing::begin_picture(rt, page, 0, rows)?;
+    let held = collect_title(rt, page, held, plan)?;
+    let held = drawing::collect_style(rt, page, held)?;
+    let held = collect_heading(rt, page, held, plan)?;
+    drawing::collect_legend(rt, page, held)
 }
 
 // The picture of a plan with a well-formed list, on a scale of so many ticks.
 fn collect_picture(
+    rt: &impl Print,
     page: &mut [u8],
     file: &[u8],
     plan: Plan,
@@ -211,15 +224,16 @@ fn collect_picture(
     lines: &[u32; 64],
     armed: bool,
     span: u64,
-) -> usize
+) -> io::Result<usize>
     requires { IsAccepted file.now × (wrong_point (block_count (task_of file.now)) points.now ≡ Place.Nowhere) × Loads (task_of file.now) points.now lines.now }
 {
     let header = taskfile::header(file);
     let rows = plan.count as u64 + 1;
-    let held = collect_head(page, plan, rows);
-    let held = drawing::collect_scale(page, held, span, rows);
-    let held = collect_regions(page, held, file, points, lines, span);
+    let held = collect_head(rt, page, plan, rows)?;
+    let held = drawing::collect_scale(rt, page, held, span, rows)?;
+    let held = collect_regions(rt, page, held, file, points, lines, span)?;
     let held = drawing::collect_limits(
+        rt,
         page,
         held,
         header.limit as u64,
@@ -227,12 +241,18 @@ fn collect_picture(
         armed,
         span,
         rows,
-    );
-    drawing::end_picture(page, held)
+    )?;
+    drawing::end_picture(rt, page, held)
 }
 
 // The same, on the scale that is right for it.
-fn collect_plan(page: &mut [u8], file: &[u8], plan: Plan, points: &[u16]) -> usize
+fn collect_plan(
+    rt: &impl Print,
+    page: &mut [u8],
+    file: &[u8],
+    plan: Plan,
+    points: &[u16],
+) -> io::Result<usize>
     requires { IsAccepted file.now × (wrong_point (block_count (task_of file.now)) points.now ≡ Place.Nowhere) }
 {
     let header = taskfile::header(file);
@@ -245,53 +265,59 @@ fn collect_plan(page: &mut [u8], file: &[u8], plan: Plan, points: &[u16]) -> usi
         header.second_limit as u64,
         armed,
     );
-    collect_picture(page, file, plan, points, &lines, armed, span)
+    collect_picture(rt, page, file, plan, points, &lines, armed, span)
 }
 
-fn draw_plan(file: &[u8], plan: Plan)
+fn draw_plan(rt: &impl Print, file: &[u8], plan: Plan) -> io::Result<()>
     requires { IsAccepted file.now × (wrong_point (block_count (task_of file.now)) (chosen plan) ≡ Place.Nowhere) }
 {
     let points = plan.points;
-    let mut page = io::buffer();
+    let mut page = [0u8; 4096];
     let held = collect_plan(
+        rt,
         &mut page,
         file,
         plan,
         desk::first(&points, plan.count as usize),
-    );
-    desk::print_page(&page, held);
+    )?;
+    desk::print_page(rt, &page, held)
 }
 
-fn draw_refusal(refusal: Refusal) {
+fn draw_refusal(rt: &impl Print, refusal: Refusal) -> io::Result<()> {
     desk::print(
+        rt,
         b"<svg xmlns=\"http://www.w3.org/2000/svg\" width=\"300\" height=\"40\" font-family=\"sans-serif\">\n",
-    );
-    desk::print(b"<rect width=\"100%\" height=\"100%\" fill=\"#fff\"/>\n");
+    )?;
+    desk::print(
+        rt,
+        b"<rect width=\"100%\" height=\"100%\" fill=\"#fff\"/>\n",
+    )?;
     desk::print_field(
+        rt,
         b"<text x=\"20\" y=\"26\">refused ",
         answers::refusal_number(refusal) as u64,
-    );
-    desk::print_field(b" at ", answers::refusal_place(refusal) as u64);
-    desk::print(b"</text>\n</svg>\n");
+    )?;
+    desk::print_field(rt, b" at ", answers::refusal_place(refusal) as u64)?;
+    desk::print(rt, b"</text>\n</svg>\n")
 }
 
-fn draw_answer(file: &[u8]) {
+fn draw_answer(rt: &impl Print, file: &[u8]) -> io::Result<()> {
     let found = planner::least_plan(file);
     let verdict = found.verdict;
     match verdict {
-        Verdict::Accepted => draw_plan(file, found.plan),
-        Verdict::Refused(refusal) => draw_refusal(refusal),
+        Verdict::Accepted => draw_plan(rt, file, found.plan),
+        Verdict::Refused(refusal) => draw_refusal(rt, refusal),
     }
 }
 
-fn main() {
-    if 0 < desk::argument_count() {
-        desk::print_usage(
+fn main(rt: HostRuntime) -> io::Result<()> {
+    if 0 < desk::argument_count(&rt) {
+        return desk::print_usage(
+            &rt,
             b"picture < FILE > PICTURE   FILE: a task file; PICTURE: its plan as an SVG file",
         );
-        return;
     }
-    let mut file = io::large_buffer();
-    let n = desk::read_input(&mut file);
-    draw_answer(&file[..n]);
+    let mut file = [0u8; 65536];
+    let n = desk::read_input(&rt, &mut file)?;
+    draw_answer(&rt, &file[..n])
 }

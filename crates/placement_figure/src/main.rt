@@ -6,6 +6,7 @@ ghost use Rattle.std.specs.Prelude.{◌<◌, ◌≤◌};
 ghost use Rattle.placement.specs.Rows.{Rising};
 
 use placement::Choice;
+use std::io;
 
 const LIMIT: u64 = 12;
 
@@ -50,23 +51,23 @@ fn choose(costs: &[u64; 65], times: &[u64; 65], a: usize) -> Choice
 }
 
 // The points that the choices lead along, with their cost alone and with the times.
-fn print_placement(cost: u64, time: u64, nexts: &[usize; 65])
+fn print_placement(rt: &impl Print, cost: u64, time: u64, nexts: &[usize; 65]) -> io::Result<()>
     requires { Rising nexts.now 6 }
 {
     if cost == placement::NONE {
-        desk::print(b"none\n");
+        desk::print(rt, b"none\n")
     } else {
         let list = placement::follow(nexts, 6);
         let points = list.points;
-        desk::print(b"points");
-        desk::print_points(desk::first(&points, list.count));
-        desk::print_field(b" cost ", cost);
-        desk::print_field(b" with times ", std::num::wrapping_add_u64(cost, time));
-        desk::end_line();
+        desk::print(rt, b"points")?;
+        desk::print_points(rt, desk::first(&points, list.count))?;
+        desk::print_field(rt, b" cost ", cost)?;
+        desk::print_field(rt, b" with times ", cost.wrapping_add(time))?;
+        desk::end_line(rt)
     }
 }
 
-fn main() {
+fn main(rt: HostRuntime) -> io::Result<()> {
     let mut costs = [0u64; 65];
     let mut nexts = [0usize; 65];
     let mut times = [0u64; 65];
@@ -78,5 +79,5 @@ fn main() {
         nexts[a] = choice.next;
         times[a] = choice.tally;
     }
-    print_placement(costs[0], times[0], &nexts);
+    print_placement(&rt, costs[0], times[0], &nexts)
 }

@@ -8,36 +8,37 @@ ghost use Rattle.model.specs.Planning.{chosen};
 ghost use Rattle.taskfile.specs.File.{IsAccepted, task_of};
 
 use model::{Place, Plan, Verdict};
+use std::io;
 
-fn print_plan(file: &[u8], plan: Plan)
+fn print_plan(rt: &impl Print, file: &[u8], plan: Plan) -> io::Result<()>
     requires { IsAccepted file.now × (wrong_point (block_count (task_of file.now)) (chosen plan) ≡ Place.Nowhere) }
 {
     let points = plan.points;
     report::print_list(
+        rt,
         file,
         plan.id,
         plan.blocks as usize,
         desk::first(&points, plan.count as usize),
         plan.lines as u64,
         plan.cost,
-    );
+    )
 }
 
-fn print_answer(file: &[u8]) {
+fn print_answer(rt: &impl Print, file: &[u8]) -> io::Result<()> {
     let found = planner::plan(file);
     let verdict = found.verdict;
     match verdict {
-        Verdict::Accepted => print_plan(file, found.plan),
-        Verdict::Refused(refusal) => desk::print_refusal(refusal),
+        Verdict::Accepted => print_plan(rt, file, found.plan),
+        Verdict::Refused(refusal) => desk::print_refusal(rt, refusal),
     }
 }
 
-fn main() {
-    if 0 < desk::argument_count() {
-        desk::print_usage(b"plan < FILE   FILE: a task file");
-        return;
+fn main(rt: HostRuntime) -> io::Result<()> {
+    if 0 < desk::argument_count(&rt) {
+        return desk::print_usage(&rt, b"plan < FILE   FILE: a task file");
     }
-    let mut file = io::large_buffer();
-    let n = desk::read_input(&mut file);
-    print_answer(&file[..n]);
+    let mut file = [0u8; 65536];
+    let n = desk::read_input(&rt, &mut file)?;
+    print_answer(&rt, &file[..n])
 }

@@ -5,29 +5,30 @@ ghost use Rattle.std.specs.Prelude.{◌≡◌, ◌≤◌, ◌<◌};
 ghost use Rattle.planvalue.specs.Values.{plan_verdict};
 
 use model::{Plan, Verdict};
+use std::io;
 
-fn show(case: &[u8], verdict: Verdict) {
-    desk::print(case);
-    desk::print(b": ");
-    desk::print_verdict(verdict);
+fn show(rt: &impl Print, case: &[u8], verdict: Verdict) -> io::Result<()> {
+    desk::print(rt, case)?;
+    desk::print(rt, b": ")?;
+    desk::print_verdict(rt, verdict)
 }
 
 // The first two points.
-fn show_points(points: &[u16; 64]) {
-    desk::print(b", points");
-    desk::print_points(desk::first(points, 2));
-    desk::end_line();
+fn show_points(rt: &impl Print, points: &[u16; 64]) -> io::Result<()> {
+    desk::print(rt, b", points")?;
+    desk::print_points(rt, desk::first(points, 2))?;
+    desk::end_line(rt)
 }
 
-fn show_plan(case: &[u8], plan: Plan) {
+fn show_plan(rt: &impl Print, case: &[u8], plan: Plan) -> io::Result<()> {
     let points = plan.points;
-    desk::print(case);
-    desk::print_field(b": N ", plan.blocks as u64);
-    desk::print_field(b", id ", plan.id as u64);
-    desk::print_field(b", count ", plan.count as u64);
-    desk::print_field(b", lines ", plan.lines as u64);
-    desk::print_field(b", cost ", plan.cost);
-    show_points(&points);
+    desk::print(rt, case)?;
+    desk::print_field(rt, b": N ", plan.blocks as u64)?;
+    desk::print_field(rt, b", id ", plan.id as u64)?;
+    desk::print_field(rt, b", count ", plan.count as u64)?;
+    desk::print_field(rt, b", lines ", plan.lines as u64)?;
+    desk::print_field(rt, b", cost ", plan.cost)?;
+    show_points(rt, &points)
 }
 
 // A plan with these first three entries.
@@ -59,8 +60,16 @@ fn store_into(plan: Plan, n: usize) -> Verdict
 }
 
 // Stores a plan with these first three entries.
-fn store(case: &[u8], blocks: u16, count: u16, a: u16, b: u16, c: u16) {
-    show(case, store_into(plan(blocks, count, a, b, c), 512));
+fn store(
+    rt: &impl Print,
+    case: &[u8],
+    blocks: u16,
+    count: u16,
+    a: u16,
+    b: u16,
+    c: u16,
+) -> io::Result<()> {
+    show(rt, case, store_into(plan(blocks, count, a, b, c), 512))
 }
 
 fn read_zeros(n: usize) -> Verdict
@@ -84,10 +93,10 @@ fn read_with(plan: Plan, at: usize, byte: u8) -> Verdict
 }
 
 // Stores the right plan, sets one byte, makes the checksum right and reads.
-fn read(case: &[u8], at: usize, byte: u8)
+fn read(rt: &impl Print, case: &[u8], at: usize, byte: u8) -> io::Result<()>
     requires { at < 512 }
 {
-    show(case, read_with(right(), at, byte));
+    show(rt, case, read_with(right(), at, byte))
 }
 
 // Stores a plan, changes one byte and reads.
@@ -146,102 +155,110 @@ fn kept(plan: Plan) -> bool {
     let before = [170u8; 512];
     let mut out = [170u8; 512];
     planblock::store(plan, &mut out);
-    check::same(&out, &before)
+    out == before
 }
 
 // 9 first: a buffer of another length than 512.
-fn buffers() {
-    show(b"store in 0 bytes", store_into(right(), 0));
-    show(b"store in 511 bytes", store_into(right(), 511));
-    show(b"store in 512 bytes", store_into(right(), 512));
-    show(b"store in 513 bytes", store_into(right(), 513));
+fn buffers(rt: &impl Print) -> io::Result<()> {
+    show(rt, b"store in 0 bytes", store_into(right(), 0))?;
+    show(rt, b"store in 511 bytes", store_into(right(), 511))?;
+    show(rt, b"store in 512 bytes", store_into(right(), 512))?;
+    show(rt, b"store in 513 bytes", store_into(right(), 513))?;
     show(
+        rt,
         b"store n65 in 511 bytes",
         store_into(plan(65, 2, 1, 3, 0), 511),
-    );
+    )
 }
 
 // Then 7 at 0: N is 1 to 64, and the count at most 63.
-fn ranges() {
-    store(b"store n0", 0, 0, 0, 0, 0);
-    store(b"store n1", 1, 0, 0, 0, 0);
-    store(b"store n64", 64, 2, 1, 63, 0);
-    store(b"store n65", 65, 2, 1, 3, 0);
-    store(b"store n65, equal points", 65, 2, 1, 1, 0);
-    show(b"store count 63", store_into(all_points(63), 512));
-    show(b"store count 64", store_into(all_points(64), 512));
+fn ranges(rt: &impl Print) -> io::Result<()> {
+    store(rt, b"store n0", 0, 0, 0, 0, 0)?;
+    store(rt, b"store n1", 1, 0, 0, 0, 0)?;
+    store(rt, b"store n64", 64, 2, 1, 63, 0)?;
+    store(rt, b"store n65", 65, 2, 1, 3, 0)?;
+    store(rt, b"store n65, equal points", 65, 2, 1, 1, 0)?;
+    show(rt, b"store count 63", store_into(all_points(63), 512))?;
+    show(rt, b"store count 64", store_into(all_points(64), 512))
 }
 
 // Then 7 at the lowest wrong entry.
-fn entries() {
-    store(b"store point 0", 4, 2, 0, 3, 0);
-    store(b"store point N", 4, 2, 1, 4, 0);
-    store(b"store equal points", 4, 2, 2, 2, 0);
-    store(b"store falling points", 4, 2, 3, 1, 0);
-    store(b"store two wrong points", 4, 3, 1, 1, 9);
-    store(b"store entry 2 beyond the count", 4, 2, 1, 3, 2);
+fn entries(rt: &impl Print) -> io::Result<()> {
+    store(rt, b"store point 0", 4, 2, 0, 3, 0)?;
+    store(rt, b"store point N", 4, 2, 1, 4, 0)?;
+    store(rt, b"store equal points", 4, 2, 2, 2, 0)?;
+    store(rt, b"store falling points", 4, 2, 3, 1, 0)?;
+    store(rt, b"store two wrong points", 4, 3, 1, 1, 9)?;
+    store(rt, b"store entry 2 beyond the count", 4, 2, 1, 3, 2)?;
     show(
+        rt,
         b"store entry 63 beyond the count",
         store_into(with_last(), 512),
-    );
+    )?;
     if kept(with_last()) {
-        desk::print(b"the refused store left the buffer\n");
+        desk::print(rt, b"the refused store left the buffer\n")?;
     }
+    Ok(())
 }
 
 // 1, then 2: the length and the checksum. The four zeros are not the hash of the others.
-fn frames() {
-    show(b"read 0 bytes", read_zeros(0));
-    show(b"read 511 bytes", read_zeros(511));
-    show(b"read 513 bytes", read_zeros(513));
-    show(b"read 512 zeros", read_zeros(512));
-    show(b"read with byte 8 changed", read_changed(right(), 8));
-    show(b"read with byte 511 changed", read_changed(right(), 511));
-    read(b"read as stored", 20, 1);
+fn frames(rt: &impl Print) -> io::Result<()> {
+    show(rt, b"read 0 bytes", read_zeros(0))?;
+    show(rt, b"read 511 bytes", read_zeros(511))?;
+    show(rt, b"read 513 bytes", read_zeros(513))?;
+    show(rt, b"read 512 zeros", read_zeros(512))?;
+    show(rt, b"read with byte 8 changed", read_changed(right(), 8))?;
+    show(
+        rt,
+        b"read with byte 511 changed",
+        read_changed(right(), 511),
+    )?;
+    read(rt, b"read as stored", 20, 1)
 }
 
 // Then 5: a wrong field under a right checksum.
-fn fields() {
-    read(b"read kind 3", 0, 3);
-    read(b"read byte 1 not zero", 1, 1);
-    read(b"read n0", 2, 0);
-    read(b"read n65", 2, 65);
-    read(b"read n260", 3, 1);
-    read(b"read count 64", 4, 64);
-    read(b"read count 258", 5, 1);
-    read(b"read byte 503 not zero", 503, 1);
-    read(b"read block number 1", 504, 1);
+fn fields(rt: &impl Print) -> io::Result<()> {
+    read(rt, b"read kind 3", 0, 3)?;
+    read(rt, b"read byte 1 not zero", 1, 1)?;
+    read(rt, b"read n0", 2, 0)?;
+    read(rt, b"read n65", 2, 65)?;
+    read(rt, b"read n260", 3, 1)?;
+    read(rt, b"read count 64", 4, 64)?;
+    read(rt, b"read count 258", 5, 1)?;
+    read(rt, b"read byte 503 not zero", 503, 1)?;
+    read(rt, b"read block number 1", 504, 1)
 }
 
 // The lines, the cost and the id are free.
-fn free_fields() {
-    read(b"read other lines", 6, 255);
-    read(b"read another cost", 15, 255);
-    read(b"read another id", 19, 255);
+fn free_fields(rt: &impl Print) -> io::Result<()> {
+    read(rt, b"read other lines", 6, 255)?;
+    read(rt, b"read another cost", 15, 255)?;
+    read(rt, b"read another id", 19, 255)
 }
 
 // And wrong points: points 1 and 3 stand at bytes 20 and 22.
-fn points() {
-    read(b"read point 0", 20, 0);
-    read(b"read point N", 22, 4);
-    read(b"read equal points", 22, 1);
+fn points(rt: &impl Print) -> io::Result<()> {
+    read(rt, b"read point 0", 20, 0)?;
+    read(rt, b"read point N", 22, 4)?;
+    read(rt, b"read equal points", 22, 1)?;
     show(
+        rt,
         b"read falling points",
         read_with(plan(64, 2, 5, 9, 0), 22, 4),
-    );
-    read(b"read one point more", 4, 3);
-    read(b"read one point less", 4, 1);
-    read(b"read point 2, not 1", 20, 2);
+    )?;
+    read(rt, b"read one point more", 4, 3)?;
+    read(rt, b"read one point less", 4, 1)?;
+    read(rt, b"read point 2, not 1", 20, 2)
 }
 
-fn main() {
-    buffers();
-    ranges();
-    entries();
-    frames();
-    fields();
-    free_fields();
-    points();
-    show_plan(b"stored and read", round_trip(right()));
-    show_plan(b"refused and read", round_trip(with_last()));
+fn main(rt: HostRuntime) -> io::Result<()> {
+    buffers(&rt)?;
+    ranges(&rt)?;
+    entries(&rt)?;
+    frames(&rt)?;
+    fields(&rt)?;
+    free_fields(&rt)?;
+    points(&rt)?;
+    show_plan(&rt, b"stored and read", round_trip(right()))?;
+    show_plan(&rt, b"refused and read", round_trip(with_last()))
 }

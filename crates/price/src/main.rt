@@ -10,43 +10,45 @@ ghost use Rattle.taskfile.specs.File.{IsAccepted, task_of};
 use decimals::Decimal;
 use model::{Place, Verdict};
 use pricing::ChargedPrice;
+use std::io;
 
 // The price of a well-formed list.
-fn print_price(file: &[u8], points: &[u16], price: ChargedPrice)
+fn print_price(rt: &impl Print, file: &[u8], points: &[u16], price: ChargedPrice) -> io::Result<()>
     requires { IsAccepted file.now × (wrong_point (block_count (task_of file.now)) points.now ≡ Place.Nowhere) }
 {
     report::print_list(
+        rt,
         file,
         taskfile::header(file).id,
         taskfile::block_count(file),
         points,
         price.lines,
         price.cost,
-    );
+    )?;
     let charges = price.charges;
-    report::print_charges(file, charges);
+    report::print_charges(rt, file, charges)
 }
 
 // The answer to the first points.
-fn print_answer(file: &[u8], points: &[u16; 64], count: usize) {
+fn print_answer(rt: &impl Print, file: &[u8], points: &[u16; 64], count: usize) -> io::Result<()> {
     let listed = desk::first(points, count);
     let price = planner::price(file, listed);
     let verdict = price.verdict;
     match verdict {
-        Verdict::Accepted => print_price(file, listed, price),
-        Verdict::Refused(refusal) => desk::print_refusal(refusal),
+        Verdict::Accepted => print_price(rt, file, listed, price),
+        Verdict::Refused(refusal) => desk::print_refusal(rt, refusal),
     }
 }
 
-fn main() {
+fn main(rt: HostRuntime) -> io::Result<()> {
     let mut points = [0u16; 64];
-    let Decimal::Number(count) = desk::read_points(&mut points) else {
-        desk::print_usage(
+    let Decimal::Number(count) = desk::read_points(&rt, &mut points) else {
+        return desk::print_usage(
+            &rt,
             b"price POINT.. < FILE   POINT: an edge, 1 to N - 1, each above the one before; FILE: a task file of N basic blocks",
         );
-        return;
     };
-    let mut file = io::large_buffer();
-    let n = desk::read_input(&mut file);
-    print_answer(&file[..n], &points, count as usize);
+    let mut file = [0u8; 65536];
+    let n = desk::read_input(&rt, &mut file)?;
+    print_answer(&rt, &file[..n], &points, count as usize)
 }

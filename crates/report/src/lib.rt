@@ -7,17 +7,18 @@ ghost use Rattle.model.specs.Lists.{wrong_point};
 ghost use Rattle.taskfile.specs.File.{IsAccepted, task_of};
 
 use model::Place;
+use std::io;
 
 // The region from edge a to edge b.
-fn print_region(a: usize, b: usize, length: u64) {
-    desk::print_field(b"region ", a as u64);
-    desk::print_field(b" ", b as u64);
-    desk::print_field(b" length ", length);
-    desk::end_line();
+fn print_region(rt: &impl Print, a: usize, b: usize, length: u64) -> io::Result<()> {
+    desk::print_field(rt, b"region ", a as u64)?;
+    desk::print_field(rt, b" ", b as u64)?;
+    desk::print_field(rt, b" length ", length)?;
+    desk::end_line(rt)
 }
 
 // The regions that points cut an accepted file's task into.
-fn print_regions(file: &[u8], points: &[u16])
+fn print_regions(rt: &impl Print, file: &[u8], points: &[u16]) -> io::Result<()>
     requires { IsAccepted file.now × (wrong_point (block_count (task_of file.now)) points.now ≡ Place.Nowhere) }
 {
     let n = taskfile::block_count(file);
@@ -27,41 +28,54 @@ fn print_regions(file: &[u8], points: &[u16])
     let mut i = 0;
     while i <= points.len() {
         let b = pricing::edge_after(points, i, n);
-        print_region(a, b, regions::weigh_between(file, a, b, lines[i]).length);
+        print_region(
+            rt,
+            a,
+            b,
+            regions::weigh_between(file, a, b, lines[i]).length,
+        )?;
         a = b;
         i += 1;
     }
+    Ok(())
 }
 
 // A well-formed list of points of an accepted file: the list's lines and cost, and each of its regions.
-pub fn print_list(file: &[u8], id: u32, n: usize, points: &[u16], lines: u64, cost: u64)
+pub fn print_list(
+    rt: &impl Print,
+    file: &[u8],
+    id: u32,
+    n: usize,
+    points: &[u16],
+    lines: u64,
+    cost: u64,
+) -> io::Result<()>
     requires { IsAccepted file.now × (wrong_point (block_count (task_of file.now)) points.now ≡ Place.Nowhere) }
 {
-    desk::print_field(b"task ", id as u64);
-    desk::print_field(b" blocks ", n as u64);
-    desk::print_field(b" points ", points.len() as u64);
-    desk::print_field(b" lines ", lines);
-    desk::print_field(b" cost ", cost);
-    desk::end_line();
-    print_regions(file, points);
+    desk::print_field(rt, b"task ", id as u64)?;
+    desk::print_field(rt, b" blocks ", n as u64)?;
+    desk::print_field(rt, b" points ", points.len() as u64)?;
+    desk::print_field(rt, b" lines ", lines)?;
+    desk::print_field(rt, b" cost ", cost)?;
+    desk::end_line(rt)?;
+    print_regions(rt, file, points)
 }
 
 // The charge of preempter i.
-fn print_charge(i: usize, id: u32, lines: u32) {
-    desk::print_field(b"preempter ", i as u64);
-    desk::print_field(b" id ", id as u64);
-    desk::print_field(b" lines ", lines as u64);
-    desk::end_line();
+fn print_charge(rt: &impl Print, i: usize, id: u32, lines: u32) -> io::Result<()> {
+    desk::print_field(rt, b"preempter ", i as u64)?;
+    desk::print_field(rt, b" id ", id as u64)?;
+    desk::print_field(rt, b" lines ", lines as u64)?;
+    desk::end_line(rt)
 }
 
 // The charges of an accepted file's preempters.
-pub fn print_charges(file: &[u8], charges: [u32; 32])
+pub fn print_charges(rt: &impl Print, file: &[u8], charges: [u32; 32]) -> io::Result<()>
     requires { IsAccepted file.now }
 {
     let count = taskfile::preempter_count(file);
-    let mut i = 0;
-    while i < count {
-        print_charge(i, taskfile::preempter_id(file, i), charges[i]);
-        i += 1;
+    for i in 0..count {
+        print_charge(rt, i, taskfile::preempter_id(file, i), charges[i])?;
     }
+    Ok(())
 }

@@ -2,19 +2,22 @@
 #![tactic(auto)]
 
 use model::Verdict;
+use std::io;
 
-fn main() {
-    if 0 < desk::argument_count() {
-        desk::print_usage(b"show < FILE > TEXT   FILE: a task file; TEXT: the text of its task");
-        return;
+fn main(rt: HostRuntime) -> io::Result<()> {
+    if 0 < desk::argument_count(&rt) {
+        return desk::print_usage(
+            &rt,
+            b"show < FILE > TEXT   FILE: a task file; TEXT: the text of its task",
+        );
     }
-    let mut file = io::large_buffer();
-    let n = desk::read_input(&mut file);
+    let mut file = [0u8; 65536];
+    let n = desk::read_input(&rt, &mut file)?;
     let mut text = [0u8; 135168];
     let shown = showing::show(&file[..n], &mut text);
     let verdict = shown.verdict;
     match verdict {
-        Verdict::Accepted => desk::print_page(&text, shown.length),
-        Verdict::Refused(refusal) => desk::print_refusal(refusal),
+        Verdict::Accepted => desk::print_page(&rt, &text, shown.length),
+        Verdict::Refused(refusal) => desk::print_refusal(&rt, refusal),
     }
 }

@@ -1,23 +1,25 @@
 // The answer to each task file that the arguments name: accepted, or refused with the number and the place.
 #![tactic(auto)]
 
+use std::io;
+use std::rt::{Env, Files};
+
 // The name and the answer of the file that argument i names.
-fn print_case(i: usize) {
-    let mut file = io::large_buffer();
-    let read = desk::read_named(i, &mut file);
+fn print_case(rt: &(impl Env + Files + Print + Eprint), i: usize) -> io::Result<()> {
+    let mut file = [0u8; 65536];
+    let read = desk::read_named(rt, i, &mut file)?;
     let n = read.count;
     if read.found {
-        desk::print_argument(i);
-        desk::print(b" ");
-        desk::print_verdict(taskfile::check(&file[..n]));
+        desk::print_argument(rt, i)?;
+        desk::print(rt, b" ")?;
+        desk::print_verdict(rt, taskfile::check(&file[..n]))?;
     }
+    Ok(())
 }
 
-fn main() {
-    let count = os::arg_count();
-    let mut i = 1;
-    while i < count {
-        print_case(i);
-        i += 1;
+fn main(rt: HostRuntime) -> io::Result<()> {
+    for i in 0..desk::argument_count(&rt) {
+        print_case(&rt, i + 1)?;
     }
+    Ok(())
 }

@@ -3,6 +3,7 @@
 #![tactic(auto)]
 
 use model::Verdict;
+use std::io;
 use tracing::{Scan, Settings};
 
 // More pieces of 65,536 bytes than any input has: 2^64 bytes.
@@ -26,19 +27,19 @@ fn settings_of(given: [u64; 7]) -> Settings {
 }
 
 // Scans standard input to its end, piece by piece, and keeps the addresses of the first records.
-fn scan_input(addresses: &mut [u32]) -> Scan {
-    let mut piece = io::large_buffer();
+fn scan_input(rt: &impl Input, addresses: &mut [u32]) -> io::Result<Scan> {
+    let mut piece = [0u8; 65536];
     let mut scan = Scan::start();
     let mut left = PIECES;
     while 0 < left {
-        let count = desk::read_input(&mut piece);
+        let count = desk::read_input(rt, &mut piece)?;
         if count == 0 {
-            return scan;
+            return Ok(scan);
         }
         scan = scan.over(&piece[..count], addresses);
         left -= 1;
     }
-    scan
+    Ok(scan)
 }
 
 // The first bytes of a file in a longer buffer; all where it has no more.
@@ -51,25 +52,32 @@ fn first(file: &[u8], length: usize) -> &[u8] {
 }
 
 // Writes the file, or says why there is none.
-fn write_file(scan: Scan, addresses: &[u32], settings: Settings) {
+fn write_file(
+    rt: &(impl Print + Eprint),
+    scan: Scan,
+    addresses: &[u32],
+    settings: Settings,
+) -> io::Result<()> {
     let mut file = [0u8; 33280];
     let made = scan.finish(addresses, settings, &mut file);
     let verdict = made.verdict;
     match verdict {
-        Verdict::Accepted => desk::print(first(&file, made.length)),
-        Verdict::Refused(refusal) => desk::report_refusal(refusal, answers::refusal_place(refusal)),
+        Verdict::Accepted => desk::print(rt, first(&file, made.length)),
+        Verdict::Refused(refusal) => {
+            desk::report_refusal(rt, refusal, answers::refusal_place(refusal))
+        }
     }
 }
 
-fn main() {
+fn main(rt: HostRuntime) -> io::Result<()> {
     let mut given = [0u64; 7];
-    if !desk::arguments(&mut given, 4294967295) {
-        desk::print_usage(
+    if !desk::arguments(&rt, &mut given, 4294967295) {
+        return desk::print_usage(
+            &rt,
             b"trace SIZE G TICKS S Q R ID < TRACE > FILE   SIZE: bytes of a memory block, from 1; G: records of a basic block, 1 to 124; TICKS: ticks of a record; S: cache lines, 1 to 512; Q: the limit in ticks; R: ticks of a reload; ID: a number; TRACE: din lines; FILE: a task file; all below 4294967296",
         );
-        return;
     }
     let mut addresses = [0u32; tracing::ROOM];
-    let scan = scan_input(&mut addresses);
-    write_file(scan, &addresses, settings_of(given));
+    let scan = scan_input(&rt, &mut addresses)?;
+    write_file(&rt, scan, &addresses, settings_of(given))
 }

@@ -55,10 +55,10 @@ returns c =
       lt-ltb c.args.a c.args.b (omega arith),
       le-leb c.args.b (block_count (task_of c.args.file.now)) (omega arith),
     ) (
-      record {
-        verdict_value = refl;
-        words_value =
-            set_words (loaded (task_of c.args.file.now) c.args.a c.args.b) found.result.loaded (search (rules, fits_word))
-                (λ d h. found.ensures.loaded d);
-        length_value = found.ensures.length;
-      })
+    record {
+      verdict_value = refl;
+      words_value =
+          set_words (loaded (task_of c.args.file.now) c.args.a c.args.b) found.result.loaded (search (rules, fits_word))
+          (λ d h. found.ensures.loaded d);
+      length_value = found.ensures.length;
+    })

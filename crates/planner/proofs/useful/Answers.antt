@@ -23,5 +23,8 @@ pub returns : goal.returns
 unfolding useful_words
 returns c =
     let accepted = sym c.check_edge-checked.ensures ∙ c.in-Accepted.is in
-    rw accepted record { verdict_value = refl; words_value = set_words (lines.useful (task_of c.args.file.now) c.args.k) c.useful_lines.result (search (rules, fits_word))
-          (λ d h. c.useful_lines.ensures d) }
+    rw accepted record {
+      verdict_value = refl;
+      words_value = set_words (lines.useful (task_of c.args.file.now) c.args.k) c.useful_lines.result (search (rules, fits_word))
+          (λ d h. c.useful_lines.ensures d);
+    }

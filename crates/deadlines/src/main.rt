@@ -7,6 +7,7 @@ ghost use Rattle.std.specs.Prelude.{◌≤◌, length};
 use decimals::Decimal;
 use demand::{Answer, Deadlines, TaskSet};
 use model::Verdict;
+use std::io;
 
 // A number above every range, which stands for all that are too large.
 const TOO_LARGE: u32 = 16777216;
@@ -78,45 +79,43 @@ fn read_set(text: &[u8]) -> TextRead {
     TextRead { right: true, set }
 }
 
-fn print_deadlines(deadlines: Deadlines) {
+fn print_deadlines(rt: &impl Print, deadlines: Deadlines) -> io::Result<()> {
     match deadlines {
-        Deadlines::Met => desk::print(b"yes"),
-        Deadlines::Missed(t) => desk::print_field(b"no at ", t as u64),
+        Deadlines::Met => desk::print(rt, b"yes")?,
+        Deadlines::Missed(t) => desk::print_field(rt, b"no at ", t as u64)?,
     }
-    desk::end_line();
+    desk::end_line(rt)
 }
 
-fn print_answer(answer: Answer) {
+fn print_answer(rt: &impl Print, answer: Answer) -> io::Result<()> {
     let verdict = answer.verdict;
     let deadlines = answer.deadlines;
     match verdict {
-        Verdict::Accepted => print_deadlines(deadlines),
-        Verdict::Refused(refusal) => desk::print_refusal(refusal),
+        Verdict::Accepted => print_deadlines(rt, deadlines),
+        Verdict::Refused(refusal) => desk::print_refusal(rt, refusal),
     }
 }
 
-fn print_usage() {
+fn print_usage(rt: &impl Eprint) -> io::Result<()> {
     desk::print_usage(
+        rt,
         b"deadlines HORIZON < SET   HORIZON: ticks, 0 to 16777215; SET: a line of four numbers for each of 1 to 16 tasks, its execution time, period, deadline and longest region, in ticks; less than 65536 bytes",
-    );
+    )
 }
 
 // A text that fills the buffer may go on behind it, and is not looked at.
-fn main() {
-    let Decimal::Number(horizon) = desk::capped_argument(1, TOO_LARGE) else {
-        print_usage();
-        return;
+fn main(rt: HostRuntime) -> io::Result<()> {
+    let Decimal::Number(horizon) = desk::capped_argument(&rt, 1, TOO_LARGE) else {
+        return print_usage(&rt);
     };
-    if os::arg_count() != 2 {
-        print_usage();
-        return;
+    if desk::argument_count(&rt) != 1 {
+        return print_usage(&rt);
     }
-    let mut text = io::large_buffer();
-    let n = desk::read_input(&mut text);
+    let mut text = [0u8; 65536];
+    let n = desk::read_input(&rt, &mut text)?;
     let read = read_set(&text[..n]);
     if !read.right | (n == 65536) {
-        print_usage();
-        return;
+        return print_usage(&rt);
     }
-    print_answer(demand::test_set(read.set, four_bytes(horizon)));
+    print_answer(&rt, demand::test_set(read.set, four_bytes(horizon)))
 }

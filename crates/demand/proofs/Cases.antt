@@ -84,6 +84,7 @@ all_pass = refl
 
 held : (cs : List Case) → every_case cs ≡ true → (c : Case) → Memᴰ c cs → CaseHolds c
 unfolding every_case
+held [] h c m = elim m [ ]
 held (d ∷ ds) h c (Memᴰ.head e) = rw e (sound d ((and-eq-true_iff (test d) (every_case ds)).0 h).0)
 held (d ∷ ds) h c (Memᴰ.tail m) = held ds ((and-eq-true_iff (test d) (every_case ds)).0 h).1 c m
 

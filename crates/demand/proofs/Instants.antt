@@ -22,6 +22,7 @@ use Rattle.demand.proofs.Visits.{demand-stays, blocking-falls}
 
 member_right : (τs : List TaskRecord) (τ : TaskRecord) → right_tasks τs ≡ true → Memᴰ τ τs → right_task τ ≡ true
 unfolding right_tasks
+member_right [] τ h m = elim m [ ]
 member_right (σ ∷ σs) τ h (Memᴰ.head e) = rw e ((and-eq-true_iff (right_task σ) (right_tasks σs)).0 h).0
 member_right (σ ∷ σs) τ h (Memᴰ.tail m) = member_right σs τ ((and-eq-true_iff (right_task σ) (right_tasks σs)).0 h).1 m
 
@@ -36,6 +37,7 @@ least-member σ (ρ ∷ ρs) h =
 
 least-most : (τs : List TaskRecord) (τ : TaskRecord) → Memᴰ τ τs → least_deadline τs ≤ τ.deadline
 unfolding least_deadline
+least-most [] τ m = elim m [ ]
 least-most (σ ∷ σs) τ (Memᴰ.head e) = rw e (omega arith)
 least-most (σ ∷ σs) τ (Memᴰ.tail m) = omega (arith, least-most σs τ m)
 

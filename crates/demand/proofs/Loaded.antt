@@ -1,4 +1,4 @@
--- A set that is loaded from a list answers as the list does: up to 16 records are all kept, and more than 16 are refused, however many. Assumes nothing.
+-- A set that is loaded from a list answers as the list does: up to 16 records are all kept, and more than 16 are refused, however many.
 use Prim.Native.Nat.{ℕ, zero, suc, ◌+◌, ◌≤◌, ◌<◌, min}
 use mathlib.Core.Path.{◌≡◌, refl, sym, ap, ◌∙◌}
 use mathlib.Core.Bool.{Bool, false, ◌&&◌}
@@ -8,24 +8,14 @@ use native.Mathlib.Decide.{dec_le}
 use native.Mathlib.Numerals.{add-one}
 use native.Mathlib.Omega.{arith}
 use lib.Dec.{leb}
-use lib.ListN.{length, get_or, take, set, length-set, length-replicate}
-use lib.Seq.{set_out, take-suc, take-suc-set, take-length}
+use lib.ListN.{length, get_or, take, length-set, length-replicate}
+use lib.Seq.{take-suc, take-suc-set, take-length}
 use Rattle.demand.specs.Demand.{most_ticks}
 use Rattle.demand.specs.Calls.{most_tasks, right_set, answer_of, answer}
 use Rattle.demand.specs.Loading.{no_task, no_tasks, with_task, loaded, loaded_set}
 use Rattle.demand.specs.declared.TaskRecord.{TaskRecord}
-use Rattle.demand.specs.declared.TaskSet.{TaskSet}
 use Rattle.demand.proofs.Ranges.{set-wrong}
 use Rattle.demand.proofs.Answers.{refused-answer}
-
--- a set with one record more
-pub only-counted : (s : TaskSet) (τ : TaskRecord) → length s.tasks ≡ most_tasks → most_tasks ≤ s.count → record { count = 17; tasks = s.tasks } ≡ with_task s τ
-unfolding with_task
-only-counted s τ long l = let n : min (s.count + 1) 17 ≡ 17 = omega arith in rw (n, set_out s.tasks s.count τ (omega arith))
-
-pub kept : (s : TaskSet) (τ : TaskRecord) → s.count < most_tasks → record { count = s.count + 1; tasks = set s.tasks s.count τ } ≡ with_task s τ
-unfolding with_task
-kept s τ l = let n : min (s.count + 1) 17 ≡ s.count + 1 = omega arith in rw n
 
 -- the records of a list, one after another
 

@@ -1,5 +1,5 @@
 -- The places that a pass of the instant t has been at: the demand with what is due there, the least of their next instants, and those in the array; the other places
--- are as they were. Assumes nothing.
+-- are as they were.
 use Prim.Native.Nat.{ℕ, ◌+◌, ◌*◌, ◌≤◌, ◌<◌, min}
 use mathlib.Core.Path.{◌≡◌, refl, sym, subst, ◌∙◌}
 use mathlib.Core.List.{List}
@@ -66,9 +66,3 @@ module _ (n : ℕ) (es ps xs₀ : List ℕ) (demanded t end : ℕ) where
       let still : get_or xs i 0 ≡ moved xs₀ ps t i = rw (← same, at-another (get_or xs i 0) t (get_or ps i 0) other) (omega arith) in
       subst (λ (d : ℕ). Passing (i + 1) d least xs) (omega arith)
       (passing-on ranged l p (sym (at-another (get_or xs i 0) t (get_or es i 0) other)) still e (filled-still _ _ _ still p.gone) (λ k h. refl))
-
-  -- all places
-  pub passing-all : {i demand next : ℕ} {xs : List ℕ} → Passing i demand next xs → i ≡ n
-      → demand ≡ demanded + below ◌+◌ 0 n (λ k. at_instant (get_or xs₀ k 0) t (get_or es k 0))
-  passing-all {demand = demand} p s =
-      subst (λ (m : ℕ). demand ≡ demanded + below ◌+◌ 0 m (λ k. at_instant (get_or xs₀ k 0) t (get_or es k 0))) s p.demand-is

@@ -106,6 +106,7 @@ pub fn no_tasks() -> TaskSet
 }
 
 // The set with a task added, which is only counted if the set already has 16.
+#[tactic(auto, unfolding(crate::specs::Loading::with_task))]
 pub fn with_task(set: TaskSet, execution: u32, period: u32, deadline: u32, region: u32) -> TaskSet
     ensures { result ≡ with_task set (task execution period deadline region) }
 {
@@ -143,12 +144,14 @@ pub fn test_set(set: TaskSet, horizon: u32) -> Answer
     }
 }
 
+#[tactic(auto, unfolding(crate::specs::Calls::in_range))]
 fn in_range(number: u32) -> bool
     ensures { result ≡ in_range number }
 {
     (1 <= number) & (number <= MOST_TICKS)
 }
 
+#[tactic(auto, unfolding(crate::specs::Calls::right_task))]
 fn right_task(task: TaskRecord) -> bool
     ensures { result ≡ right_task task }
 {

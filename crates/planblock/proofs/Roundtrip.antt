@@ -116,6 +116,6 @@ read-stores bs out e l =
     let back = store-back bs e in
     rw (output-accepts 512 (length out) l, back.0) (refl, back.1)
 
--- with this lemma `search (needs, point-fits)` shows `PlanFits` of a plan that a function was passed
+-- with this lemma `search (rules, point-fits)` shows `PlanFits` of a plan that a function was passed
 pub point-fits : (n : ℕ) → Fits w16 n → n < 2 ^ 16
 point-fits n h = h.fits

@@ -96,7 +96,7 @@ module _ (t : Task) (most : preempter_count t ≤ 32) (line mark : ℕ) (is : ma
     where
       go : FirstOf (preempter_count t) (evicted t line) (first_touching t line) → ltb mark 32 ≡ evicted t line
       go (inl none) = rw (is, none.0, none.1) refl
-      go (inr some) = rw (is, some.0, some.1.is_at) (lt-ltb some.1.index 32 (omega (arith, some.1.below)))
+      go (inr some) = rw (is, some.0, some.1.is-at) (lt-ltb some.1.index 32 (omega (arith, some.1.below)))
 
   one-owner : (k : ℕ) → k < 32 → (x y z : Bool) → bit (part t k line && x && y && z) ≡ cond (eqb k (mark % 32)) (bit (evicted t line && x && y && z)) 0
   unfolding charged_to
@@ -114,8 +114,8 @@ module _ (t : Task) (most : preempter_count t ≤ 32) (line mark : ℕ) (is : ma
           → bit (evicted t line && is_at k (first_touching t line) && x && y && z) ≡ cond (eqb k (mark % 32)) (bit (evicted t line && x && y && z)) 0
       go (inl none) = rw none.0 (none_here (eqb k (mark % 32)))
       go (inr some) =
-          let own : mark % 32 ≡ some.1.index = rw (is, some.1.is_at) (omega (arith, some.1.below)) in
-          rw (some.0, some.1.is_at, own) (one-here (eqb k some.1.index))
+          let own : mark % 32 ≡ some.1.index = rw (is, some.1.is-at) (omega (arith, some.1.below)) in
+          rw (some.0, some.1.is-at, own) (one-here (eqb k some.1.index))
 
 -- read j of block i + 1, of number m
 module _ (t : Task) (i j m : ℕ) (hi : i < block_count t) (hj : j < length (block_at t i).reads) (is : get_or (block_at t i).reads j 0 ≡ m)

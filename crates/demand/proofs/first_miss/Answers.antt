@@ -1,15 +1,12 @@
 -- `demand::first_miss` meets its contract. The loop's invariant, of every right set whose fields the arrays hold, is `Visiting`; beside it, what blocks stays
 -- as long as it is said to.
-use Prim.Native.Nat.{ℕ, ◌+◌, ◌-◌, ◌<◌}
+use Prim.Native.Nat.{ℕ, ◌<◌}
 use mathlib.Core.Path.{sym}
-use mathlib.Core.List.{List}
 use native.Mathlib.Omega.{arith}
 use lib.ListN.{take}
-use Rattle.demand.specs.Lanes.{BlockedUntil}
-use Rattle.demand.specs.declared.TaskRecord.{TaskRecord}
 use Rattle.demand.proofs.Filling.{filled-all}
 use Rattle.demand.proofs.Ranges.{Ranges, set-counted, lane-ranges}
-use Rattle.demand.proofs.Visits.{Arrays, Visiting, visiting-first, visiting-next, next-above, total-is, demand-most-at, blocking-read-most, first-missed, all-met}
+use Rattle.demand.proofs.Visits.{Arrays, visiting-first, visiting-next, next-above, total-is, demand-most-at, blocking-read-most, first-missed, all-met}
 use Rattle.demand.proofs.first_miss.Goals as goal
 use Rattle.demand.proofs.first_miss.Goals.{At-loop-t}
 
@@ -67,23 +64,23 @@ pub returns-then-t-demand : goal.returns-then-t-demand
 returns-then-t-demand c =
     let done = c.pass-passed.ensures in
     let now-blocked = c.blocked_from-blocked.ensures in
-    let all = total-is _ _ _ _ _ _ (arrays (goal.at.returns-then-t-demand c).At-loop-t) _ _ _ _ _ _ _ _ (c.loop-t.invariant.0 _ (arrays (goal.at.returns-then-t-demand c).At-loop-t)) c.pass-passed.ensures.demand_value (now-blocked.0 c.loop-t.t (omega arith) now-blocked.1) c.pass-passed.ensures.next_value.0 c.pass-passed.ensures.next_value.1 in
+    let all = total-is _ _ _ _ _ _ (arrays (goal.at.returns-then-t-demand c).At-loop-t) _ _ _ _ _ _ _ _ (c.loop-t.invariant.0 _ (arrays (goal.at.returns-then-t-demand c).At-loop-t)) c.pass-passed.ensures.demand_value (now-blocked.0 c.loop-t.t (omega arith) now-blocked.1) c.pass-passed.ensures.next_value c.pass-passed.ensures.holds in
     sym (first-missed _ _ _ _ _ (c.loop-t.invariant.0 _ (arrays (goal.at.returns-then-t-demand c).At-loop-t)) (omega (arith, c.loop-t-test.true)) (omega (arith, all, c.if-t-demand.true)))
 
 pub loop-t-smaller : goal.loop-t-smaller
 loop-t-smaller c =
     let done = c.pass-passed.ensures in
     let now-blocked = c.blocked_from-blocked.ensures in
-    let later = next-above _ _ _ _ _ _ (arrays (goal.at.loop-t-smaller c).At-loop-t) _ _ _ _ _ _ _ _ (c.loop-t.invariant.0 _ (arrays (goal.at.loop-t-smaller c).At-loop-t)) c.pass-passed.ensures.demand_value (now-blocked.0 c.loop-t.t (omega arith) now-blocked.1) c.pass-passed.ensures.next_value.0 c.pass-passed.ensures.next_value.1 (omega (arith, c.loop-t-test.true)) in
+    let later = next-above _ _ _ _ _ _ (arrays (goal.at.loop-t-smaller c).At-loop-t) _ _ _ _ _ _ _ _ (c.loop-t.invariant.0 _ (arrays (goal.at.loop-t-smaller c).At-loop-t)) c.pass-passed.ensures.demand_value (now-blocked.0 c.loop-t.t (omega arith) now-blocked.1) c.pass-passed.ensures.next_value c.pass-passed.ensures.holds (omega (arith, c.loop-t-test.true)) in
     omega (arith, c.loop-t-test.true)
 
 pub loop-t-preserved : goal.loop-t-preserved
 loop-t-preserved c =
     let done = c.pass-passed.ensures in
     let now-blocked = c.blocked_from-blocked.ensures in
-    let later = next-above _ _ _ _ _ _ (arrays (goal.at.loop-t-preserved c).At-loop-t) _ _ _ _ _ _ _ _ (c.loop-t.invariant.0 _ (arrays (goal.at.loop-t-preserved c).At-loop-t)) c.pass-passed.ensures.demand_value (now-blocked.0 c.loop-t.t (omega arith) now-blocked.1) c.pass-passed.ensures.next_value.0 c.pass-passed.ensures.next_value.1 (omega (arith, c.loop-t-test.true)) in (
+    let later = next-above _ _ _ _ _ _ (arrays (goal.at.loop-t-preserved c).At-loop-t) _ _ _ _ _ _ _ _ (c.loop-t.invariant.0 _ (arrays (goal.at.loop-t-preserved c).At-loop-t)) c.pass-passed.ensures.demand_value (now-blocked.0 c.loop-t.t (omega arith) now-blocked.1) c.pass-passed.ensures.next_value c.pass-passed.ensures.holds (omega (arith, c.loop-t-test.true)) in (
       λ τs a.
-          visiting-next τs _ _ _ _ _ a _ _ _ _ _ _ _ _ (c.loop-t.invariant.0 τs a) c.pass-passed.ensures.demand_value (now-blocked.0 c.loop-t.t (omega arith) now-blocked.1) c.pass-passed.ensures.next_value.0 c.pass-passed.ensures.next_value.1
+          visiting-next τs _ _ _ _ _ a _ _ _ _ _ _ _ _ (c.loop-t.invariant.0 τs a) c.pass-passed.ensures.demand_value (now-blocked.0 c.loop-t.t (omega arith) now-blocked.1) c.pass-passed.ensures.next_value c.pass-passed.ensures.holds
           (omega (arith, c.loop-t-test.true)) (omega (arith, c.requires.1)) c.if-t-demand.false,
       λ s l u. now-blocked.0 s (omega arith) u,
     )

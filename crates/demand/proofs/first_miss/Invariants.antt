@@ -1,15 +1,10 @@
 -- `demand::first_miss` meets its contract. The loop's invariant, of every right set whose fields the arrays hold, is `Visiting`; beside it, what blocks stays
 -- as long as it is said to.
-use Prim.Native.Nat.{ℕ, ◌+◌, ◌-◌, ◌<◌}
-use mathlib.Core.Path.{sym}
+use Prim.Native.Nat.{◌+◌, ◌-◌}
 use mathlib.Core.List.{List}
-use native.Mathlib.Omega.{arith}
-use lib.ListN.{take}
 use Rattle.demand.specs.Lanes.{BlockedUntil}
 use Rattle.demand.specs.declared.TaskRecord.{TaskRecord}
-use Rattle.demand.proofs.Filling.{filled-all}
-use Rattle.demand.proofs.Ranges.{Ranges, set-counted, lane-ranges}
-use Rattle.demand.proofs.Visits.{Arrays, Visiting, visiting-first, visiting-next, next-above, total-is, demand-most-at, blocking-read-most, first-missed, all-met}
+use Rattle.demand.proofs.Visits.{Arrays, Visiting}
 use Rattle.demand.proofs.first_miss.Given as goal
 
 abbrev pub invariant-loop-t : goal.invariant-loop-t

@@ -1,16 +1,8 @@
 -- `demand::right_set` meets its contract. The loop's invariant: the tasks are right if those left are.
 use Prim.Native.Nat.{◌-◌, ◌≤◌}
-use mathlib.Core.Path.{◌≡◌, refl, sym, ◌∙◌}
-use mathlib.Core.Bool.{true, false}
-use mathlib.Core.Logic.{inl, inr}
-use native.Mathlib.Omega.{arith}
-use borrow.Author.Rules.{rules}
-use borrow.Author.Tests.{not-true, not-false}
-use lib.ListN.{length, take, drop}
-use Rattle.demand.specs.Calls.{most_tasks, right_task, right_tasks}
-use Rattle.demand.specs.Lanes.{lane}
-use Rattle.demand.proofs.Ranges.{rights-more, rights-wrong, rights-end, set-rights, set-wrong}
-use Rattle.demand.proofs.Records.{array_long, lane-within, take_long}
+use mathlib.Core.Path.{◌≡◌}
+use lib.ListN.{take, drop}
+use Rattle.demand.specs.Calls.{most_tasks, right_tasks}
 use Rattle.demand.proofs.right_set.Given as goal
 
 abbrev pub invariant-loop-i : goal.invariant-loop-i

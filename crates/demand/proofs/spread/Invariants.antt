@@ -1,12 +1,7 @@
 -- `demand::spread` meets its contract. The loop's invariant: the arrays hold the fields of the tasks passed.
 use Prim.Native.Nat.{◌-◌, ◌≤◌}
-use mathlib.Core.Path.{◌≡◌, sym}
-use native.Mathlib.Omega.{arith}
-use borrow.Author.Rules.{rules}
-use lib.ListN.{length, take}
+use lib.ListN.{take}
 use Rattle.demand.specs.Lanes.{Spread}
-use Rattle.demand.proofs.Filling.{spread_none, spread-more, spread-all}
-use Rattle.demand.proofs.Records.{array_long, lane-within, take_long}
 use Rattle.demand.proofs.spread.Given as goal
 
 abbrev pub invariant-loop-i : goal.invariant-loop-i

@@ -1,5 +1,4 @@
 -- `demand::test_set` meets its contract.
-use borrow.Author.Rules.{rules}
 use Rattle.demand.proofs.Answers.{accepted-set, accepted-answer, refused-answer}
 use Rattle.demand.proofs.test_set.Goals as goal
 

@@ -1,5 +1,5 @@
 -- `placement::follow` meets its contract. The loop's invariant: whatever list leads on from the edge that is reached, the points so far and that list lead from the first.
-use Rattle.std.proofs.Common.{◌≡◌, ℕ, suc, ◌+◌, ◌-◌, ◌<◌, ◌≤◌, List, [], ◌∷◌, ◌++◌, length, get_or, take, drop, set, replicate, sym, refl, ap, ◌∙◌, append_assoc, append-nil, add-one, arith, length-set, drop-drop, take-suc-set, drop-set-lt, rules}
+use Rattle.std.proofs.Common.{◌≡◌, ℕ, suc, ◌+◌, ◌-◌, ◌<◌, ◌≤◌, List, [], ◌∷◌, length, get_or, drop, set, replicate, sym, refl, ap, ◌∙◌, append_assoc, append-nil, add-one, arith, length-set, drop-drop, take-suc-set, drop-set-lt}
 use native.Mathlib.Numerals.{lt-add-one}
 use Rattle.placement.specs.Rows.{Leads, Rising, Followed}
 use Rattle.placement.proofs.follow.Goals as goal

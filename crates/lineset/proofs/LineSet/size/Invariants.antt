@@ -1,15 +1,8 @@
 -- `LineSet::size` meets its contract. The loop's invariant: n counts the lines of the words below i. The measure is the words left.
-use mathlib.Core.Path.{◌≡◌, ◌∙◌, ap}
-use Prim.Native.Nat.{ℕ, ◌+◌, ◌*◌, ◌-◌, ◌^◌, ◌≤◌, ◌<◌}
-use native.Mathlib.Omega.{arith}
-use borrow.Author.Rules.{rules}
-use lib.Count.{ones}
-use lib.ListN.{get_or}
+use mathlib.Core.Path.{◌≡◌}
+use Prim.Native.Nat.{◌*◌, ◌-◌, ◌≤◌}
 use Rattle.model.specs.Sets.{count_below}
-use Rattle.model.proofs.Digits.{count-le}
-use Rattle.model.proofs.Sets.{fits_word}
 use Rattle.lineset.specs.Members.{members}
-use Rattle.lineset.proofs.Laws.{count_word}
 use Rattle.lineset.proofs.LineSet.size.Given as goal
 
 abbrev pub invariant-loop-i : goal.invariant-loop-i

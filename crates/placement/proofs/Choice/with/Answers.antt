@@ -1,8 +1,9 @@
 -- `placement::Choice::with` meets its contract: edge b is left where it costs more, or as much and is not the end.
-use Rattle.std.proofs.Common.{◌≡◌, ℕ, ◌+◌, ◌-◌, ◌%◌, ◌^◌, ◌<◌, ◌≤◌, List, get_or, refl, ap, ◌∙◌, inl, inr, ⊎_elim, le_trans, le_refl, eq-or-lt_of_le, arith, rules}
+use Rattle.std.proofs.Common.{◌≡◌, ℕ, ◌+◌, ◌%◌, ◌^◌, ◌<◌, ◌≤◌, List, get_or, refl, ap, ◌∙◌, inl, inr, ⊎_elim, le_trans, le_refl, eq-or-lt_of_le, arith}
 use Rattle.placement.specs.Rows.{Tries}
 use Rattle.placement.specs.declared.Choice.{Choice}
 use Rattle.placement.proofs.Choice.with.Goals as goal
+use Rattle.placement.proofs.Choice.with.Goals.{then-most-cost+else-b-n+else-most-cost-2, else-most-cost}
 
 module _ {costs tallies : List ℕ} {n b x y : ℕ} {c : Choice} (within : b ≤ n) (below : x < 2 ^ 56) where
   left : c.cost ≤ x + get_or costs b 0 → (n ≤ b → c.cost < x + get_or costs b 0) → Tries costs tallies n b x y c c
@@ -57,10 +58,9 @@ returns-then-b-n c = left c.requires.0 c.requires.2 (omega arith) (λ le. omega 
 pub returns-then-most-cost-2 : goal.returns-then-most-cost-2
 returns-then-most-cost-2 c = left c.requires.0 c.requires.2 (omega arith) (λ le. omega arith)
 
-pub overflow_add-sum : goal.overflow_add-sum
-overflow_add-sum c = ⊎_elim (λ w. omega arith) (λ w. omega arith) c.if-most-cost.branch
-
 pub returns : goal.returns
 returns c =
-    taken c.requires.0 c.requires.2 (⊎_elim (λ w. omega arith) (λ w. omega arith) c.if-most-cost.branch)
-    (λ lt. ⊎_elim (λ w. omega arith) (λ w. omega arith) c.if-most-cost.branch) c.wrapping_add_u64.ensures
+    taken c.requires.0 c.requires.2
+    (elim c.if-most-cost.branch [ then-most-cost+else-b-n+else-most-cost-2 w ↦ omega arith | else-most-cost w ↦ omega arith ])
+    (λ lt. elim c.if-most-cost.branch [ then-most-cost+else-b-n+else-most-cost-2 w ↦ omega arith | else-most-cost w ↦ omega arith ])
+    c.wrapping_add_u64.ensures.value

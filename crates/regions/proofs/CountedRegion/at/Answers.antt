@@ -1,0 +1,23 @@
+-- `regions::CountedRegion::at` meets its contract: no blocks have no time and load no line, and Q counts for them.
+use Prim.Native.Nat.{zero-le}
+use mathlib.Core.Path.{refl, sym, subst}
+use native.Mathlib.Nat.{le_refl}
+use Rattle.model.proofs.Regions.{region-none}
+use Rattle.model.specs.declared.Header.{Header}
+use Rattle.regions.specs.Measures.{RunBetween}
+use Rattle.regions.proofs.Runs.{run_none}
+use Rattle.regions.proofs.CountedRegion.at.Goals as goal
+
+pub returns : goal.returns
+returns c =
+    let a = c.args.a in (
+      λ t e h. record {
+        rising = le_refl a;
+        within = h;
+        lines = sym (region-none t a);
+        few = zero-le;
+        run = subst (λ (header : Header). RunBetween t a a 0 header.limit) (sym e) (run_none t a);
+      },
+      refl,
+      refl,
+    )

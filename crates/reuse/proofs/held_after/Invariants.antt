@@ -1,0 +1,21 @@
+-- `reuse::held_after` meets its contract. Both loops keep what the lines hold after the reads passed.
+use Prim.Native.Nat.{◌+◌, ◌-◌, ◌≤◌}
+use mathlib.Core.Path.{◌≡◌}
+use lib.ListN.{length, get_or}
+use Rattle.model.specs.declared.Line.TheVariants.{Empty}
+use Rattle.model.proofs.Histories.{Holds}
+use Rattle.model.proofs.ReadOrder.{edge}
+use Rattle.taskfile.specs.File.{task_of}
+use Rattle.reuse.proofs.held_after.Given as goal
+
+abbrev pub invariant-loop-j : goal.invariant-loop-j
+invariant-loop-j l = (l.j ≤ l.reads) × (length l.held ≡ 512) × Holds (task_of l.file) (edge (task_of l.file) l.i + l.j) (λ c. get_or l.held c Empty)
+
+abbrev pub decreases-loop-j : goal.decreases-loop-j
+decreases-loop-j l = l.reads - l.j
+
+abbrev pub invariant-loop-i : goal.invariant-loop-i
+invariant-loop-i l = (l.i ≤ l.k) × (length l.held ≡ 512) × Holds (task_of l.file) (edge (task_of l.file) l.i) (λ c. get_or l.held c Empty)
+
+abbrev pub decreases-loop-i : goal.decreases-loop-i
+decreases-loop-i l = l.k - l.i

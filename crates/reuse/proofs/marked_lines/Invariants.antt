@@ -1,0 +1,14 @@
+-- `reuse::marked_lines` meets its contract. The loop's invariant: the set is the marked lines below c.
+use Prim.Native.Nat.{ℕ, ◌-◌, ◌≤◌}
+use mathlib.Core.Path.{◌≡◌}
+use mathlib.Core.Bool.{false, ◌&&◌}
+use lib.Dec.{ltb}
+use lib.ListN.{get_or}
+use Rattle.lineset.specs.Members.{members}
+use Rattle.reuse.proofs.marked_lines.Given as goal
+
+abbrev pub invariant-loop-c : goal.invariant-loop-c
+invariant-loop-c l = (l.c ≤ l.count) × ((d : ℕ) → members l.set d ≡ (ltb d l.c && get_or l.marks d false))
+
+abbrev pub decreases-loop-c : goal.decreases-loop-c
+decreases-loop-c l = l.count - l.c

@@ -1,4 +1,4 @@
-// The firmware's C calls: planning and pricing on bytes, the plan in a lent block.
+// The firmware's two calls: planning and pricing on bytes, the plan in a lent block. The crate `firmware_c` exports them to C.
 #![tactic(auto)]
 
 ghost use Rattle.std.specs.Prelude.{◌≡◌, ◌<◌, length};
@@ -11,8 +11,7 @@ ghost use Rattle.firmware.specs.Calls.{PlanCall, price_returned, price_left};
 use model::{Plan, Verdict};
 
 // Plans a task file and leaves its one plan in the block.
-#[unsafe(no_mangle)]
-pub extern "C" fn preempt_plan(file: &[u8], block: &mut [u8]) -> u32
+pub fn preempt_plan(file: &[u8], block: &mut [u8]) -> u32
     ensures { PlanCall file.now block.old result block.new }
 {
     let output = answers::check_output(512, block.len());
@@ -26,8 +25,7 @@ pub extern "C" fn preempt_plan(file: &[u8], block: &mut [u8]) -> u32
 }
 
 // Prices the points of a plan block and leaves their plan in the other block.
-#[unsafe(no_mangle)]
-pub extern "C" fn preempt_price(file: &[u8], points: &[u8], block: &mut [u8]) -> u32
+pub fn preempt_price(file: &[u8], points: &[u8], block: &mut [u8]) -> u32
     ensures value { result ≡ price_returned file.now points.now block.old }
     ensures block_after { block.new ≡ price_left file.now points.now block.old }
 {

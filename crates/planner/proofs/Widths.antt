@@ -4,21 +4,21 @@ use Prim.Native.Nat.{ℕ, zero, suc, ◌+◌, ◌-◌, ◌*◌, ◌^◌, ◌≤�
 use mathlib.Core.Path.{◌≡◌, refl}
 use mathlib.Core.Bool.{Bool, true, false, cond}
 use mathlib.Core.List.{List, [], ◌∷◌}
-use native.Mathlib.Nat.{mul-le-mul, le_refl}
+use native.Mathlib.Nat.{mul-le-mul}
 use native.Mathlib.Omega.{arith}
 use lib.Dec.{eqb}
 use lib.ListN.{length}
 use Rattle.model.specs.Task.{Task, block_count, no_block}
 use Rattle.model.specs.Lines.{block_at}
-use Rattle.model.specs.Lists.{regions, total, well_formed}
-use Rattle.model.specs.Regions.{time_after, loaded, region_lines, switch_ticks, region_cost, region_length, lines, cost}
+use Rattle.model.specs.Lists.{regions, total}
+use Rattle.model.specs.Regions.{time_after, loaded, region_lines, switch_ticks, region_cost, region_length, lines}
 use Rattle.model.proofs.Digits.{count_none}
 use Rattle.model.proofs.LineStates.{useful-start}
 use Rattle.model.proofs.Lists.{rising-short}
 use Rattle.model.proofs.Regions.{cost-of-lines, lines-region, lines_from}
 use Rattle.block.specs.Bytes.{Each}
 use Rattle.block.proofs.Each.{each_at}
-use Rattle.taskfile.specs.File.{IsAccepted, task_of, header_numbers, EntryWithin, Within}
+use Rattle.taskfile.specs.File.{task_of, header_numbers, EntryWithin, Within}
 use Rattle.taskfile.proofs.Accepted.{accepted, block-count, few-blocks}
 use Rattle.taskfile.proofs.Files.{accepted-within}
 use Rattle.planner.specs.Statements.{CostFits, LengthFits}

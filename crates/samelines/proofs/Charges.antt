@@ -32,7 +32,7 @@ evicted-is t c = go (first_of t c)
   where
     go : FirstOf (preempter_count t) (evicted t c) (first_touching t c) → evicted t c ≡ somewhere (first_touching t c)
     go (inl none) = none.0 ∙ rw none.1 refl
-    go (inr some) = some.0 ∙ rw some.1.is_at refl
+    go (inr some) = some.0 ∙ rw some.1.is-at refl
 
 first-same : (t u : Task) → preempter_count t ≡ preempter_count u → ((i c : ℕ) → touches t i c ≡ touches u i c) → first_touching t ≡ first_touching u
 unfolding first_touching

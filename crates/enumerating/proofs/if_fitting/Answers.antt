@@ -24,7 +24,7 @@ loop-to-preserved c =
         | then-rest-eq1 w ↦
             let e = w.ended-walk.ensures in
             walked-is _ _ _ _ _ (rw w.walk-is e.fits_value) (rw w.walk-is e.from_value) (rw w.walk-is e.lines_value) (rw w.walk-is e.cost_value)
-                (walked-point _ _ _ _ _ l.invariant.1 (omega arith) w.if-rest-eq1.true (c.requires.2.few at) (c.requires.2.small at))
+            (walked-point _ _ _ _ _ l.invariant.1 (omega arith) w.if-rest-eq1.true (c.requires.2.few at) (c.requires.2.small at))
         | else-rest-eq1 w ↦ rw w.walk-is (walked_none _ _ _ _ _ l.invariant.1 (omega arith) w.if-rest-eq1.false)
       ],
     )

@@ -7,11 +7,11 @@ one_more : {nexts : List ℕ} {a : ℕ} (k v : ℕ) → a ≤ k + 1 → k < 6 �
 one_more {nexts} k v below h u lo hi =
     let within : k < length nexts = omega (arith, u.long) in
     let both : (j : ℕ) → k ≤ j → j < 6 → (j < get_or (set nexts k v) j 0) × (get_or (set nexts k v) j 0 ≤ 6) =
-        λ j l m.
-        ⊎_elim
-        (λ (e : k ≡ j). rw (← e, get_or-set_same nexts k v 0 within) (lo, hi))
-        (λ (lt : k < j). rw (get_or-set_other nexts k j v 0 (omega arith)) (u.above j (omega arith) m, u.within j (omega arith) m))
-        (eq-or-lt_of_le l)
+    λ j l m.
+    ⊎_elim
+    (λ (e : k ≡ j). rw (← e, get_or-set_same nexts k v 0 within) (lo, hi))
+    (λ (lt : k < j). rw (get_or-set_other nexts k j v 0 (omega arith)) (u.above j (omega arith) m, u.within j (omega arith) m))
+    (eq-or-lt_of_le l)
     in
     record {
       edge = omega arith;

@@ -55,12 +55,11 @@ returns-then-not-weighed c =
     (tried-all (λ k lo hi. longer-above t c.args.a region.result.to k (omega (arith, region.ensures.2)) above) c.loop-region.invariant.3)
 
 pub with-choice-requires : goal.with-choice-requires
-with-choice-requires c =
-    (
-      omega (arith, c.longer-region.ensures.2, c.loop-region-test.true),
-      omega (arith, c.block_count-n.ensures.2),
-      omega (arith, c.weigh-weighed.ensures.small),
-    )
+with-choice-requires c = (
+  omega (arith, c.longer-region.ensures.2, c.loop-region-test.true),
+  omega (arith, c.block_count-n.ensures.2),
+  omega (arith, c.weigh-weighed.ensures.small),
+)
 
 pub loop-region-preserved : goal.loop-region-preserved
 loop-region-preserved c =

@@ -33,12 +33,11 @@ follow-list-requires c =
     (c.block_count.ensures.1, c.block_count.ensures.2, rw c.block_count.ensures.0 (rows-rise c.requires.1))
 
 pub plan_of-requires : goal.plan_of-requires
-plan_of-requires c =
-    (
-      c.requires.0,
-      few (task_of c.args.file.now) (positive (goal.at.plan_of-requires c).Start) (most (goal.at.plan_of-requires c).Start) c.requires.1 c.follow-list.result.count c.follow-list.result.points c.if-cost.false (followed (goal.at.plan_of-requires c).After-follow-list),
-      list-lines-fit (task_of c.args.file.now) (positive (goal.at.plan_of-requires c).Start) (most (goal.at.plan_of-requires c).Start) c.requires.1 c.follow-list.result.count c.follow-list.result.points c.if-cost.false (followed (goal.at.plan_of-requires c).After-follow-list),
-    )
+plan_of-requires c = (
+  c.requires.0,
+  few (task_of c.args.file.now) (positive (goal.at.plan_of-requires c).Start) (most (goal.at.plan_of-requires c).Start) c.requires.1 c.follow-list.result.count c.follow-list.result.points c.if-cost.false (followed (goal.at.plan_of-requires c).After-follow-list),
+  list-lines-fit (task_of c.args.file.now) (positive (goal.at.plan_of-requires c).Start) (most (goal.at.plan_of-requires c).Start) c.requires.1 c.follow-list.result.count c.follow-list.result.points c.if-cost.false (followed (goal.at.plan_of-requires c).After-follow-list),
+)
 
 pub returns : goal.returns
 returns c =

@@ -16,12 +16,11 @@ returns-then-point-last c =
     sym (c.loop-i.invariant.1 ∙ point-wrong _ _ _ _ 0 c.loop-i-test.true (⊎_elim inl (λ w. inr w.1) c.then-point-last.either))
 
 pub loop-i-preserved : goal.loop-i-preserved
-loop-i-preserved c =
-    (
-      omega arith,
-      c.loop-i.invariant.1 ∙
-          point-right _ _ _ _ 0 c.loop-i-test.true c.if-point-last.false c.if-n-point.false,
-    )
+loop-i-preserved c = (
+  omega arith,
+  c.loop-i.invariant.1 ∙
+      point-right _ _ _ _ 0 c.loop-i-test.true c.if-point-last.false c.if-n-point.false,
+)
 
 pub returns : goal.returns
 returns c = sym (c.loop-i.invariant.1 ∙ points-end _ _ _ _ c.loop-i-test.false)

@@ -49,19 +49,19 @@ entered c =
     let least : 0 < block_count t = omega (arith, c.block_count-blocks.ensures) in
     let end : c.edge_after.result ≡ get_or ps l.region (block_count t) = c.edge_after.ensures ∙ ap (get_or ps l.region) blocks in
     elim c.if-edge_after-i.branch [
-    | then-edge_after-i w ↦
-    let ends : get_or ps l.region (block_count t) ≡ l.i = sym end ∙ w.if-edge_after-i.true in
-    let inside : l.i < block_count t = omega (arith, c.loop-i-test.true) in
-    let next = next-region t ps c.args.lines.now least c.requires.1 l.invariant.2 ends inside in
-    rw (w.region-is, w.count-is) (
-      next.0,
-      next.2,
-      rw next.1 (known-block (known-region l.invariant.1)),
-      charged-region l.invariant.3 l.invariant.2.index ends l.invariant.2.passed (omega arith) next.1,
-    )
-    | else-edge_after-i w ↦
-    let other : get_or ps l.region (block_count t) ≡ l.i → ⊥ = λ e. w.if-edge_after-i.false (end ∙ e) in
-    rw (w.region-is, w.count-is) (l.invariant.2, omega (arith, l.invariant.2.end), known-block l.invariant.1, l.invariant.3)
+      | then-edge_after-i w ↦
+          let ends : get_or ps l.region (block_count t) ≡ l.i = sym end ∙ w.if-edge_after-i.true in
+          let inside : l.i < block_count t = omega (arith, c.loop-i-test.true) in
+          let next = next-region t ps c.args.lines.now least c.requires.1 l.invariant.2 ends inside in
+          rw (w.region-is, w.count-is) (
+            next.0,
+            next.2,
+            rw next.1 (known-block (known-region l.invariant.1)),
+            charged-region l.invariant.3 l.invariant.2.index ends l.invariant.2.passed (omega arith) next.1,
+          )
+      | else-edge_after-i w ↦
+          let other : get_or ps l.region (block_count t) ≡ l.i → ⊥ = λ e. w.if-edge_after-i.false (end ∙ e) in
+          rw (w.region-is, w.count-is) (l.invariant.2, omega (arith, l.invariant.2.end), known-block l.invariant.1, l.invariant.3)
     ]
 
 -- there are at most 64 regions

@@ -85,22 +85,22 @@ loop-j-preserved c =
     let is = sym (line.ensures.0 t cache.ensures) in
     let next : edge t outer.i + (inner.j + 1) ≡ suc (edge t outer.i + inner.j) = omega arith in
     elim c.match-line_of.branch [
-    | in-Uncached w ↦
-    rw (w.alone-is, w.preempted-is, w.held-is, w.since-is, next) (
-      omega (arith, taken),
-      omega (arith, inner.invariant.1),
-      omega (arith, inner.invariant.2),
-      read-skip t ps number.result inside counted number_is outer.invariant.3 inner.invariant.3 (is ∙ w.in-Uncached.is),
-    )
-    | in-Cached w ↦
-    let on = w.in-Cached.c in
-    rw (w.alone-is, w.preempted-is, w.held-is, w.since-is, next) (
-      omega (arith, taken),
-      omega (arith, inner.invariant.1, w.missed-alone.ensures.1),
-      omega (arith, inner.invariant.2, w.missed-preempted.ensures.1),
-      read_more t ps number.result inside counted number_is outer.invariant.3 inner.invariant.3 on (outer.i + 1) _ _ (line-below line.result on w.in-Cached.is line.ensures.1)
-          (is ∙ w.in-Cached.is) (add-one outer.i) w.missed-alone.ensures.0 (w.missed-preempted.ensures.0 ∙ rw (w.is_lost-lost.ensures, marks on) refl),
-    )
+      | in-Uncached w ↦
+          rw (w.alone-is, w.preempted-is, w.held-is, w.since-is, next) (
+            omega (arith, taken),
+            omega (arith, inner.invariant.1),
+            omega (arith, inner.invariant.2),
+            read-skip t ps number.result inside counted number_is outer.invariant.3 inner.invariant.3 (is ∙ w.in-Uncached.is),
+          )
+      | in-Cached w ↦
+          let on = w.in-Cached.c in
+          rw (w.alone-is, w.preempted-is, w.held-is, w.since-is, next) (
+            omega (arith, taken),
+            omega (arith, inner.invariant.1, w.missed-alone.ensures.1),
+            omega (arith, inner.invariant.2, w.missed-preempted.ensures.1),
+            read_more t ps number.result inside counted number_is outer.invariant.3 inner.invariant.3 on (outer.i + 1) _ _ (line-below line.result on w.in-Cached.is line.ensures.1)
+                (is ∙ w.in-Cached.is) (add-one outer.i) w.missed-alone.ensures.0 (w.missed-preempted.ensures.0 ∙ rw (w.is_lost-lost.ensures, marks on) refl),
+          )
     ]
 
 pub loop-i-preserved : goal.loop-i-preserved

@@ -15,8 +15,7 @@ pub weigh_between-requires : goal.weigh_between-requires
 weigh_between-requires g c =
     let at = region-edges (block_count (task_of c.args.file.now)) c.args.points.now (omega (arith, c.block_count-n.ensures)) c.requires.1 c.loop-i.i (omega arith) in
     let end : c.edge_after-b.result ≡ get_or c.args.points.now c.loop-i.i (block_count (task_of c.args.file.now)) =
-        c.edge_after-b.ensures ∙ ap (get_or c.args.points.now c.loop-i.i) c.block_count-n.ensures.0 in
-    (
+    c.edge_after-b.ensures ∙ ap (get_or c.args.points.now c.loop-i.i) c.block_count-n.ensures.0 in (
       c.requires.0,
       rw (c.loop-i.invariant.1, end) (omega (arith, at.1)),
       rw end at.2,

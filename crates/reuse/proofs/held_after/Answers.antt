@@ -58,22 +58,22 @@ loop-j-preserved c =
     let is = sym (line.ensures.0 t c.requires.2) in
     let next : edge t outer.i + (inner.j + 1) ≡ suc (edge t outer.i + inner.j) = omega arith in
     elim c.match-line_of.branch [
-    | in-Uncached w ↦
-    rw (w.held-is, next) (
-      omega arith,
-      inner.invariant.1,
-      holds_more t outer.i inner.j number.result inside counted number_is 0 false (lies-uncached t number.result (is ∙ w.in-Uncached.is))
-          refl (λ d n. refl) inner.invariant.2,
-    )
-    | in-Cached w ↦
-    let on = w.in-Cached.c in
-    let low = line-below line.result on w.in-Cached.is line.ensures.1 in
-    rw (w.held-is, next) (
-      omega arith,
-      length-set inner.held on _ ∙ inner.invariant.1,
-      holds_more t outer.i inner.j number.result inside counted number_is on true (lies-cached t number.result on (is ∙ w.in-Cached.is))
-          (get_or-set_same inner.held on _ Empty (omega (arith, inner.invariant.1))) (λ d n. get_or-set_other inner.held on d _ Empty n) inner.invariant.2,
-    )
+      | in-Uncached w ↦
+          rw (w.held-is, next) (
+            omega arith,
+            inner.invariant.1,
+            holds_more t outer.i inner.j number.result inside counted number_is 0 false (lies-uncached t number.result (is ∙ w.in-Uncached.is))
+                refl (λ d n. refl) inner.invariant.2,
+          )
+      | in-Cached w ↦
+          let on = w.in-Cached.c in
+          let low = line-below line.result on w.in-Cached.is line.ensures.1 in
+          rw (w.held-is, next) (
+            omega arith,
+            length-set inner.held on _ ∙ inner.invariant.1,
+            holds_more t outer.i inner.j number.result inside counted number_is on true (lies-cached t number.result on (is ∙ w.in-Cached.is))
+                (get_or-set_same inner.held on _ Empty (omega (arith, inner.invariant.1))) (λ d n. get_or-set_other inner.held on d _ Empty n) inner.invariant.2,
+          )
     ]
 
 pub loop-i-preserved : goal.loop-i-preserved

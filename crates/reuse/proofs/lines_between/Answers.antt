@@ -33,7 +33,10 @@ returns c =
     let held = c.held_after-held.ensures.1 in
     let noted = c.first_lines-accessed.ensures in
     let blocks : c.block_count.result ≡ block_count t = c.block_count.ensures.0 in
-    let next = next-noted t c.args.a c.args.b c.requires.1 c.requires.2 noted (rw blocks at c.first_lines.ensures) in record { by_index = λ d.
+    let next = next-noted t c.args.a c.args.b c.requires.1 c.requires.2 noted (rw blocks at c.first_lines.ensures) in record {
+      by_index = λ d.
           c.reread_lines.ensures d ∙
           by_cases (dec_lt d count) (λ h. rw (lt-ltb d count h) (ap₂ same_block (held d (omega (arith, of.sound.most))) (next d)))
-          (λ h. rw (le-ltb d count (omega arith)) (sym (useful-beyond t (omega (arith, of.sound.some, of.count)) d (omega (arith, of.count)) c.args.a))); by_index_2 = union-noted t c.args.a c.args.b c.requires.1 c.requires.2 noted }
+          (λ h. rw (le-ltb d count (omega arith)) (sym (useful-beyond t (omega (arith, of.sound.some, of.count)) d (omega (arith, of.count)) c.args.a)));
+      by_index_2 = union-noted t c.args.a c.args.b c.requires.1 c.requires.2 noted;
+    }

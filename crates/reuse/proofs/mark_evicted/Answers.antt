@@ -21,11 +21,15 @@ loop-k-init c =
 
 pub mark_reads-requires : goal.mark_reads-requires
 mark_reads-requires c =
-    record { marks_len = c.loop-k.invariant.0; accepted = (
-          c.requires.1,
-          omega arith,
-          omega (arith, accepted-file.block-count c.args.file.now, accepted-file.preempter-count c.args.file.now),
-        ); geometry_of = c.requires.2 }
+    record {
+      marks_len = c.loop-k.invariant.0;
+      accepted = (
+        c.requires.1,
+        omega arith,
+        omega (arith, accepted-file.block-count c.args.file.now, accepted-file.preempter-count c.args.file.now),
+      );
+      geometry_of = c.requires.2;
+    }
 
 pub loop-k-preserved : goal.loop-k-preserved
 loop-k-preserved c =
@@ -52,6 +56,9 @@ returns c =
     let all : l.k - first ≡ (counts file).preempters = omega (arith, accepted-file.preempter-count file) in
     let from : first ≡ 1 + (counts file).blocks = omega (arith, accepted-file.block-count file) in
     let beyond : (d : ℕ) → 512 ≤ d → evicted (task_of file) d ≡ false =
-    λ d h. evicted-beyond (task_of file) (omega (arith, of.sound.some, of.count)) d (omega (arith, of.sound.most, of.count)) in record { marks_len = l.invariant.0; by_index = λ d.
+    λ d h. evicted-beyond (task_of file) (omega (arith, of.sound.some, of.count)) d (omega (arith, of.sound.most, of.count)) in record {
+      marks_len = l.invariant.0;
+      by_index = λ d.
           by_cases (dec_lt d 512) (λ h. l.invariant.3 d h ∙ rw (all, from, ← preempter-reads file) refl)
-          (λ h. get_or-eq_default l.marks false {n = d} (omega (arith, l.invariant.0)) ∙ sym (beyond d (omega arith))) }
+          (λ h. get_or-eq_default l.marks false {n = d} (omega (arith, l.invariant.0)) ∙ sym (beyond d (omega arith)));
+    }

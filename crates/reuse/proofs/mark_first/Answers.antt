@@ -36,11 +36,15 @@ overflow_cast-i c = omega (arith, (accepted-file.accepted c.args.file.now c.requ
 
 pub mark_reads_by-requires : goal.mark_reads_by-requires
 mark_reads_by-requires c =
-    record { marks_len = c.loop-i.invariant.1; accepted = (
-          c.requires.1,
-          omega arith,
-          omega (arith, c.loop-i.invariant.0, accepted-file.block-count c.args.file.now),
-        ); geometry_of = c.requires.2 }
+    record {
+      marks_len = c.loop-i.invariant.1;
+      accepted = (
+        c.requires.1,
+        omega arith,
+        omega (arith, c.loop-i.invariant.0, accepted-file.block-count c.args.file.now),
+      );
+      geometry_of = c.requires.2;
+    }
 
 pub loop-i-preserved : goal.loop-i-preserved
 unfolding touches

@@ -63,7 +63,10 @@ loop-j-preserved c =
 
 pub returns : goal.returns
 returns c =
-    let l = c.loop-j in record { marks_len_2 = l.invariant.1.0; marked_too = λ d h.
+    let l = c.loop-j in record {
+      marks_len_2 = l.invariant.1.0;
+      marked_too = λ d h.
           l.invariant.1.1 d h ∙
           ap (λ (xs : List ℕ). get_or c.args.marks.now d false || any_read (on_line (task_of c.args.file.now) d) xs)
-          (take_all l.j (entry_reads c.args.file.now c.args.k) (omega arith)) }
+          (take_all l.j (entry_reads c.args.file.now c.args.k) (omega arith));
+    }

@@ -54,7 +54,10 @@ loop-j-preserved c =
 
 pub returns : goal.returns
 returns c =
-    let l = c.loop-j in record { marks_len_2 = l.invariant.1.0; marked_by = λ d h.
+    let l = c.loop-j in record {
+      marks_len_2 = l.invariant.1.0;
+      marked_by = λ d h.
           l.invariant.1.1 d h ∙
           ap (λ (xs : List ℕ). cond (any_read (on_line (task_of c.args.file.now) d) xs) c.args.by (get_or c.args.marks.now d 0))
-          (take_all l.j (entry_reads c.args.file.now c.args.k) (omega arith)) }
+          (take_all l.j (entry_reads c.args.file.now c.args.k) (omega arith));
+    }

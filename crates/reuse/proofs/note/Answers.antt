@@ -23,12 +23,12 @@ returns-then-read-c c =
     let read = c.args.read.now in
     let marked : get_or read c.in-Cached.c false ≡ true = c.if-read-c.true in
     rw c.in-Cached.is (
-      record {
-        read_len = (c.requires.0, c.requires.1);
-        by_index = λ d. marked-twice read c.in-Cached.c d marked;
-        by_index_2 = λ d. rw (marked-before read c.in-Cached.c d marked) refl;
-        by_index_3 = λ d. rw (marked-before read c.in-Cached.c d marked) (sym (or-false _));
-      })
+    record {
+      read_len = (c.requires.0, c.requires.1);
+      by_index = λ d. marked-twice read c.in-Cached.c d marked;
+      by_index_2 = λ d. rw (marked-before read c.in-Cached.c d marked) refl;
+      by_index_3 = λ d. rw (marked-before read c.in-Cached.c d marked) (sym (or-false _));
+    })
 
 pub bounds-read-c-in-Cached : goal.bounds-read-c-in-Cached
 bounds-read-c-in-Cached c = below (goal.at.bounds-read-c-in-Cached c).In-Cached
@@ -43,12 +43,12 @@ pub returns-in-Uncached : goal.returns-in-Uncached
 returns-in-Uncached c =
     let off : (d : ℕ) → (not (get_or c.args.read.now d false) && false) ≡ false = λ d. and-false (not (get_or c.args.read.now d false)) in
     rw c.in-Uncached.is (
-      record {
-        read_len = (c.requires.0, c.requires.1);
-        by_index = λ d. sym (or-false _);
-        by_index_2 = λ d. rw (off d) refl;
-        by_index_3 = λ d. rw (off d) (sym (or-false _));
-      })
+    record {
+      read_len = (c.requires.0, c.requires.1);
+      by_index = λ d. sym (or-false _);
+      by_index_2 = λ d. rw (off d) refl;
+      by_index_3 = λ d. rw (off d) (sym (or-false _));
+    })
 
 pub returns-else-read-c : goal.returns-else-read-c
 returns-else-read-c c =
@@ -58,9 +58,9 @@ returns-else-read-c c =
     let in-cache : line < 512 = below (goal.at.returns-else-read-c c).In-Cached in
     let fresh : get_or read line false ≡ false = c.if-read-c.false in
     rw c.in-Cached.is (
-      record {
-        read_len = (length-set read line true ∙ c.requires.0, length-set first line c.args.number ∙ c.requires.1);
-        by_index = λ d. one-marked read line d (omega (arith, c.requires.0));
-        by_index_2 = λ d. rw (marked-first read line d fresh) (one_number first line c.args.number d (omega (arith, c.requires.1)));
-        by_index_3 = λ d. rw (marked-first read line d fresh) (c.with.ensures d ∙ rw (lt-ltb line 512 in-cache) refl);
-      })
+    record {
+      read_len = (length-set read line true ∙ c.requires.0, length-set first line c.args.number ∙ c.requires.1);
+      by_index = λ d. one-marked read line d (omega (arith, c.requires.0));
+      by_index_2 = λ d. rw (marked-first read line d fresh) (one_number first line c.args.number d (omega (arith, c.requires.1)));
+      by_index_3 = λ d. rw (marked-first read line d fresh) (c.with.ensures d ∙ rw (lt-ltb line 512 in-cache) refl);
+    })

@@ -52,7 +52,10 @@ loop-j-preserved c =
 
 pub returns : goal.returns
 returns c =
-    let l = c.loop-j in record { readers_len_2 = l.invariant.1.0; first_by = λ d h.
+    let l = c.loop-j in record {
+      readers_len_2 = l.invariant.1.0;
+      first_by = λ d h.
           l.invariant.1.1 d h ∙
           ap (λ (xs : List ℕ). cond (eqb (get_or c.args.readers.now d 0) 0 && any_read (on_line (task_of c.args.file.now) d) xs) c.args.k (get_or c.args.readers.now d 0))
-          (take_all l.j (entry_reads c.args.file.now c.args.k) (omega arith)) }
+          (take_all l.j (entry_reads c.args.file.now c.args.k) (omega arith));
+    }

@@ -38,6 +38,9 @@ returns-in-Uncached c =
 
 pub returns-in-Cached : goal.returns-in-Cached
 returns-in-Cached c =
-    let readers = c.args.readers.now in record { readers_len = length-set readers c.in-Cached.c c.first_reader.result ∙ c.requires.0; first_by = λ d h.
+    let readers = c.args.readers.now in record {
+      readers_len = length-set readers c.in-Cached.c c.first_reader.result ∙ c.requires.0;
+      first_by = λ d h.
           rw c.in-Cached.is
-          (one_reader readers c.in-Cached.c c.args.by c.first_reader.result d (omega (arith, c.requires.0, below (goal.at.returns-in-Cached c).In-Cached)) c.first_reader.ensures) }
+          (one_reader readers c.in-Cached.c c.args.by c.first_reader.result d (omega (arith, c.requires.0, below (goal.at.returns-in-Cached c).In-Cached)) c.first_reader.ensures);
+    }

@@ -48,6 +48,9 @@ loop-i-preserved c =
 
 pub returns : goal.returns
 returns c =
-    let l = c.loop-i in record { noted_to = l.invariant; settled = λ z.
+    let l = c.loop-i in record {
+      noted_to = l.invariant;
+      settled = λ z.
           let end = ltb-false l.i c.block_count-blocks.result (sym (and-true _) ∙ rw (eq-eqb _ 0 z) at c.loop-i-test.false) in
-          omega (arith, l.invariant.to) }
+          omega (arith, l.invariant.to);
+    }

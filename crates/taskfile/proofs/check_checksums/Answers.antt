@@ -38,13 +38,12 @@ returns-then-not-checksum_right c =
 
 pub loop-left-preserved : goal.loop-left-preserved
 unfolding blocks_in
-loop-left-preserved c =
-    (
-      omega arith,
-      c.loop-left.invariant.1 ∙
-          scan-next (sum_right c.args.file.now) _ _ _ c.loop-left-test.true (omega arith)
-          (tested (goal.at.loop-left-preserved c).After-checksum_right ∙ c.if-not-checksum_right.false),
-    )
+loop-left-preserved c = (
+  omega arith,
+  c.loop-left.invariant.1 ∙
+      scan-next (sum_right c.args.file.now) _ _ _ c.loop-left-test.true (omega arith)
+      (tested (goal.at.loop-left-preserved c).After-checksum_right ∙ c.if-not-checksum_right.false),
+)
 
 pub returns : goal.returns
 unfolding checksum_row blocks_in

@@ -25,13 +25,12 @@ returns-then-not-block_right c =
     (sym c.block_right.ensures ∙ c.if-not-block_right.true))))
 
 pub loop-left-preserved : goal.loop-left-preserved
-loop-left-preserved c =
-    (
-      omega arith,
-      c.loop-left.invariant.1 ∙
-          scan-next (block_right c.args.file.now) _ _ _ c.loop-left-test.true (omega arith)
-          (sym c.block_right.ensures ∙ c.if-not-block_right.false),
-    )
+loop-left-preserved c = (
+  omega arith,
+  c.loop-left.invariant.1 ∙
+      scan-next (block_right c.args.file.now) _ _ _ c.loop-left-test.true (omega arith)
+      (sym c.block_right.ensures ∙ c.if-not-block_right.false),
+)
 
 pub returns : goal.returns
 unfolding block_row

@@ -13,12 +13,11 @@ checksum_right-requires c = rw c.block_at.ensures (length-in _ _ (omega arith))
 
 pub returns-then-checksum_right : goal.returns-then-checksum_right
 unfolding blocks_in
-returns-then-checksum_right c =
-    (
-      omega arith,
-      scan-next (sum_right c.args.file.now) _ _ _ (omega arith) (omega arith)
-          (ap checksum_right (sym c.block_at.ensures) ∙ sym c.checksum_right.ensures ∙ c.if-checksum_right.true),
-    )
+returns-then-checksum_right c = (
+  omega arith,
+  scan-next (sum_right c.args.file.now) _ _ _ (omega arith) (omega arith)
+      (ap checksum_right (sym c.block_at.ensures) ∙ sym c.checksum_right.ensures ∙ c.if-checksum_right.true),
+)
 
 pub returns : goal.returns
 unfolding blocks_in

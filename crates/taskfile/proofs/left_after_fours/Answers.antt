@@ -16,13 +16,12 @@ returns-then-not-four_right c = c.loop-left.invariant
 
 pub loop-left-preserved : goal.loop-left-preserved
 unfolding blocks_in
-loop-left-preserved c =
-    (
-      omega arith,
-      c.loop-left.invariant.1 ∙
-          scan-four (sum_right c.args.file.now) _ _ _ _ (omega arith) (omega arith) (omega arith)
-          (sym c.four_right.ensures ∙ c.if-not-four_right.false),
-    )
+loop-left-preserved c = (
+  omega arith,
+  c.loop-left.invariant.1 ∙
+      scan-four (sum_right c.args.file.now) _ _ _ _ (omega arith) (omega arith) (omega arith)
+      (sym c.four_right.ensures ∙ c.if-not-four_right.false),
+)
 
 pub returns : goal.returns
 unfolding blocks_in

@@ -11,10 +11,9 @@ returns-then-bypasses c = (λ t of. rw (sym (c.bypasses.ensures t of) ∙ c.if-b
 
 pub returns-else-bypasses : goal.returns-else-bypasses
 unfolding line_of
-returns-else-bypasses c =
-    (
-      λ t of.
-          rw (sym (c.bypasses.ensures t of) ∙ c.if-bypasses.false)
-          (ap Cached (c.remainder.ensures.0 ∙ ap (λ (s : ℕ). c.args.number % s) of.count)),
-      c.remainder.ensures.1,
-    )
+returns-else-bypasses c = (
+  λ t of.
+      rw (sym (c.bypasses.ensures t of) ∙ c.if-bypasses.false)
+      (ap Cached (c.remainder.ensures.0 ∙ ap (λ (s : ℕ). c.args.number % s) of.count)),
+  c.remainder.ensures.1,
+)

@@ -8,8 +8,7 @@ use Rattle.cacheline.proofs.Geometry.slot_of.Goals as goal
 
 pub returns : goal.returns
 returns c =
-    let rest = c.remainder.ensures in
-    (
+    let rest = c.remainder.ensures in (
       λ t of.
           let there = rest.0 ∙ ap (λ (s : ℕ). c.args.number % s) of.count in
           record {

@@ -1,0 +1,42 @@
+-- `probe::leave` meets its contract: the buffer's length and then the verdict decide, and where both accept the numbers are stored.
+use mathlib.Core.Path.{◌≡◌, refl, sym, ap, ◌∙◌}
+use Prim.Native.Nat.{◌*◌}
+use lib.ListN.{length}
+use Rattle.model.specs.Answers.{verdict_number, verdict_place}
+use Rattle.model.proofs.Verdicts.{both-accepted, output-size}
+use Rattle.probe.specs.Calls.{probed, left}
+use borrow.Author.Rules.{rules}
+use Rattle.probe.proofs.leave.Goals as goal
+use Rattle.probe.proofs.leave.Goals.{After-earlier-answer, After-verdict_number-number}
+
+-- the answer is the one that the contract states
+decided : (c : goal.After-earlier-answer) → let args = c.args in
+    c.earlier-answer.result ≡ probed (8 * length args.numbers.now) args.verdict args.out.now
+unfolding probed
+decided c = rw c.check_output-output.ensures at c.earlier-answer.ensures
+
+-- and so are its number and its place
+given : (c : goal.After-verdict_number-number) → let args = c.args in
+    let answer = probed (8 * length args.numbers.now) args.verdict args.out.now in
+    (c.verdict_number-number.result ≡ verdict_number answer) × (c.verdict_place.result ≡ verdict_place answer)
+given c =
+    let same = decided c {-to After-earlier-answer-} in
+    (c.verdict_number-number.ensures ∙ ap verdict_number same, c.verdict_place.ensures ∙ ap verdict_place same)
+
+pub put_numbers-requires : goal.put_numbers-requires
+unfolding probed
+put_numbers-requires c =
+    let both = both-accepted _ _ (sym (decided (goal.at.put_numbers-requires c).After-earlier-answer) ∙ c.in-Accepted.is) in
+    (search rules, output-size _ _ both.0)
+
+pub returns-in-Accepted : goal.returns-in-Accepted
+unfolding left
+returns-in-Accepted c =
+    let known = given (goal.at.returns-in-Accepted c).After-verdict_number-number in
+    record { value = known.0; place_after = known.1; out_after = rw (← decided (goal.at.returns-in-Accepted c).After-earlier-answer, c.in-Accepted.is) c.put_numbers.ensures }
+
+pub returns-in-Refused : goal.returns-in-Refused
+unfolding left
+returns-in-Refused c =
+    let known = given (goal.at.returns-in-Refused c).After-verdict_number-number in
+    record { value = known.0; place_after = known.1; out_after = rw (← decided (goal.at.returns-in-Refused c).After-earlier-answer, c.in-Refused.is) refl }

@@ -1,0 +1,13 @@
+-- `probe::leave_deadlines` meets its contract: two numbers are left.
+use Prim.Native.Nat.{◌*◌}
+use mathlib.Core.Path.{◌≡◌}
+use native.Mathlib.Omega.{arith}
+use lib.ListN.{length}
+use borrow.Author.Rules.{rules}
+use Rattle.probe.proofs.leave_deadlines.Goals as goal
+
+pub returns : goal.returns
+returns c =
+    let size : 8 * length c.deadlines_numbers-numbers.result ≡ 16 = omega arith in
+    let all = rw (size, c.deadlines_numbers-numbers.ensures) at c.leave.ensures in
+    (all.0, all.1.0, all.1.1)

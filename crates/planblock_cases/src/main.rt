@@ -122,10 +122,8 @@ fn round_trip(plan: Plan) -> Plan
 
 fn one_to_63() -> [u16; 64] {
     let mut points = [0u16; 64];
-    let mut i: usize = 0;
-    while i < 63 {
+    for i in 0..63 {
         points[i] = i as u16 + 1;
-        i += 1;
     }
     points
 }

@@ -30,14 +30,12 @@ fn settings_of(given: [u64; 7]) -> Settings {
 fn scan_input(rt: &impl Input, addresses: &mut [u32]) -> io::Result<Scan> {
     let mut piece = [0u8; 65536];
     let mut scan = Scan::start();
-    let mut left = PIECES;
-    while 0 < left {
+    for _ in 0..PIECES {
         let count = desk::read_input(rt, &mut piece)?;
         if count == 0 {
             return Ok(scan);
         }
         scan = scan.over(&piece[..count], addresses);
-        left -= 1;
     }
     Ok(scan)
 }

@@ -1,11 +1,12 @@
 # make, make lib    prove the planner and build its static library
 # make parts        that, the tests' library and the programs at the desk
+# make plan ..      one program at the desk, or those that are named
 # make example      build the C example and hold what it prints on File Seven to its file 'expected'
 # make release      the library, its header, how to link them, the format and the example, in one archive
 # make test-c       unpack the release, call it from C, build its example as LINKING.txt says, and hold the stack of each call to what preempt.h says
 # make test-format  hold docs/FORMAT.txt to the bytes that the C calls take and leave
-# make test-proof   hold docs/PROOF.md to the tree and to what the last checks said; every crate must have been checked
-# make test-desk    prove the programs at the desk and hold what they print to documents 01 and 02
+# make test-proof   hold docs/PROOF.md to the tree
+# make test-desk    hold what the programs at the desk print to documents 01 and 02
 # make test-front   run the script preempt under each shell at hand, and install, use and uninstall it in a directory of its own
 # make test-picture read the pictures of many files and hold them to what plan prints of each; SEED and COUNT may be given
 # make test-texts   hold the programs that read and write the text of a task to a reader and a writer of their own; SEED and COUNT may be given
@@ -24,7 +25,7 @@ CXX := g++
 STRICT := -O2 -Wall -Wextra -Werror -pedantic -Wconversion
 CFLAGS := -std=c11 $(STRICT)
 VERSION := $(shell cat VERSION)
-SOURCES := crates.txt $(shell find crates -name '*.rt' -o -name '*.antt')
+SOURCES := crates.txt $(shell find crates/*/src crates/*/specs crates/*/proofs -type f)
 LIB := target/staticlib/libfirmware.a
 PROBE := target/staticlib/libprobe.a
 # The programs at the desk: all that have a main but those of cases.
@@ -41,26 +42,32 @@ OPPONENT := PLANNER_LIB_DIR=$(CURDIR)/target/staticlib CARGO_TARGET_DIR=$(CURDIR
 	cargo run --release --offline --locked --quiet --manifest-path tests/Cargo.toml --
 
 .PHONY: lib parts example release install uninstall test-c test-format test-proof test-desk test-front test-picture test-texts test-readme opponent \
-	opponent-bugs bench compare clean
+	opponent-bugs bench compare clean $(DESK)
 .DELETE_ON_ERROR:
-# Two calls of rt at once would overwrite each other's notes in target/.
+# Two calls of rt at once in one tree would wait for one another.
 .NOTPARALLEL:
 
 lib: $(LIB)
 
 parts: $(LIB) $(PROBE) $(PROGRAMS)
 
-# rt check proves crates side by side where it can; rt staticlib does not.
-target/planner.proved: $(SOURCES)
-	rt check planner replaying
-	touch $@
+$(DESK): %: target/bin/%
 
-$(LIB) $(PROBE): target/staticlib/lib%.a: target/planner.proved
-	rt staticlib $*
+# Whether a file was made of the sources as they are, by rt ci or by rt.
+is_made = test -e $(1) && test -z "$$(find crates.txt crates/*/src crates/*/specs crates/*/proofs -newer $(1))"
 
-$(PROGRAMS): target/bin/%: target/planner.proved
-	rt check $*
-	touch $@
+$(LIB): CRATE := firmware_c
+$(PROBE): CRATE := probe
+$(LIB) $(PROBE): $(SOURCES)
+	mkdir -p $(@D)
+	$(call is_made,crates/$(CRATE)/out/lib$(CRATE).a) || { cd crates/$(CRATE) && rt lib; }
+	cp crates/$(CRATE)/out/lib$(CRATE).a $@
+
+# rt run also runs the program that it makes.
+$(PROGRAMS): target/bin/%: $(SOURCES)
+	mkdir -p $(@D)
+	$(call is_made,crates/$*/out/$*) || { cd crates/$* && rt run </dev/null >/dev/null; }
+	cp crates/$*/out/$* $@
 
 target/example/firmware: examples/firmware/main.c include/preempt.h $(LIB)
 	mkdir -p $(@D)
@@ -165,4 +172,4 @@ compare: $(LIB) $(PROBE)
 		cargo run --release --offline --locked --quiet --manifest-path bench/compare/Cargo.toml --features "$(WITH)" -- $(SEED) $(COUNT)
 
 clean:
-	rm -rf target
+	rm -rf target crates/*/out

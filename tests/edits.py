@@ -7,7 +7,7 @@ import sys
 
 os.chdir(os.path.join(os.path.dirname(os.path.abspath(__file__)), ".."))
 
-CRATES = dict(re.findall(r"(?m)^(\w+):(.*)$", open("crates.txt", encoding="utf-8").read()))
+CRATES = dict(re.findall(r"(?m)^(\w+)(?: staticlib)?:(.*)$", open("crates.txt", encoding="utf-8").read()))
 
 
 def faults(path):

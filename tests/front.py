@@ -398,7 +398,7 @@ def test_stand_ins(front):
     empty = f"{front.scratch}/empty"
     os.mkdir(empty)
     for name, (arguments, _, _) in GOOD.items():
-        front.fails(f"{name} is not built, there is no {empty}/{name}; run: rt check {name}", name, *arguments, env={"PREEMPT_BIN": empty})
+        front.fails(f"{name} is not built, there is no {empty}/{name}; run: make {name}", name, *arguments, env={"PREEMPT_BIN": empty})
 
 
 def test_words(front):
@@ -499,7 +499,7 @@ def test_install(scratch, programs):
         hold((ran.status, ran.out, ran.err) == (0, direct("plan", stdin=SEVEN).out, b""), str(ran))
     os.remove(f"{prefix}/libexec/preempt/plan")
     ran = Ran([f"{prefix}/bin/preempt", "plan", SEVEN])
-    hold(ran.status == 2 and b"run: rt check plan" in ran.err, str(ran))
+    hold(ran.status == 2 and b"run: make plan" in ran.err, str(ran))
     make("uninstall", f"PREFIX={prefix}")
     hold(files_below(prefix) == [], f"make uninstall leaves {files_below(prefix)}")
     hold(not os.path.exists(f"{prefix}/libexec/preempt") and not os.path.exists(f"{prefix}/share/doc/preempt"), "make uninstall leaves a directory")

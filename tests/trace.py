@@ -31,7 +31,7 @@ def stands(kind, name):
         return os.path.exists(os.path.join(CRATES, crate, "must-fail", edit + ".edit"))
     if kind.startswith("statement"):
         crate, file, item = re.split(r"[/.]", name)
-        proof = re.sub(r"(?<!^)(?=[A-Z])", "-", item).lower()
+        proof = re.sub(r"(?<!^)(?=[A-Z])", "[-_]", item).lower()
         return defines(read(crate, "specs", file + ".antt"), item) and re.search(rf"(?m)^pub {proof} : {item}$", read(crate, "proofs"))
     if kind.startswith("law"):
         crate, file, law = re.split(r"[/.]", name)

@@ -15,9 +15,12 @@ use lib.Seq.{take-suc-set, drop-cons}
 use Rattle.model.specs.Lists.{same_list}
 use Rattle.model.proofs.Lists.{same-list}
 use Rattle.decimals.specs.Decimals.{all_digits, value, decimal_of}
+use Rattle.decimals.specs.declared.Decimal.{Decimal}
 use Rattle.decimals.specs.declared.Decimal.TheVariants.{Number, Nothing}
 use Rattle.assembling.specs.Drafts.{is_number, all_numbers, header_words, header_word}
-use Rattle.assembling.specs.Steps.{number_in, NumbersRead}
+use Rattle.assembling.specs.Words.{words_of}
+use Rattle.assembling.specs.declared.Word.{Word}
+use Rattle.assembling.specs.Steps.{number_in, FirstWord, NumbersRead}
 
 -- a word that says a number of 64 bits says it here too if it is small enough
 
@@ -30,17 +33,17 @@ said w n e = go (ltb 0 (length w) && all_digits w) (ltb (value w) 18446744073709
     go true false e = let z : ◌≡◌ {A = ℕ} 0 1 = cc in absurd (omega arith)
     go false y e = let z : ◌≡◌ {A = ℕ} 0 1 = cc in absurd (omega arith)
 
-pub number-right : (w : List ℕ) (n : ℕ) → decimal_of w ≡ Number n → n ≤ 4294967295 → number_in w ≡ Number n
+pub number-right : (w : List ℕ) (n : ℕ) → Number n ≡ decimal_of w → n ≤ 4294967295 → Number n ≡ number_in w
 unfolding number_in is_number
 number-right w n e h =
-    let s = said w n e in
+    let s = said w n (sym e) in
     let both = (and-eq-true_iff (ltb 0 (length w)) (all_digits w)).0 s.0 in
     rw (both.0, both.1, s.1, le-leb n 4294967295 h) refl
 
-pub number-large : (w : List ℕ) (n : ℕ) → decimal_of w ≡ Number n → 4294967295 < n → number_in w ≡ Nothing
+pub number-large : (w : List ℕ) (n : ℕ) → Number n ≡ decimal_of w → 4294967295 < n → Nothing ≡ number_in w
 unfolding number_in is_number
 number-large w n e h =
-    let s = said w n e in
+    let s = said w n (sym e) in
     let both = (and-eq-true_iff (ltb 0 (length w)) (all_digits w)).0 s.0 in
     rw (both.0, both.1, s.1, lt-leb n 4294967295 h) refl
 
@@ -59,6 +62,18 @@ number-none w e = by_cases (dec_le (value w) 4294967295) small (λ h. large (ltb
 
     small : value w ≤ 4294967295 → cond (ltb 0 (length w) && (all_digits w && leb (value w) 4294967295)) (Number (value w)) Nothing ≡ Nothing
     small h = rw (le-leb (value w) 4294967295 h) (go (ltb 0 (length w)) (all_digits w) (rw (lt-ltb (value w) 18446744073709551616 (omega arith)) at e))
+
+-- the number, if it is small enough
+abbrev pub small_only : Decimal → Decimal
+small_only (Number n) = cond (leb n 4294967295) (Number n) Nothing
+small_only Nothing = Nothing
+
+pub number_is : (w : List ℕ) → number_in w ≡ small_only (decimal_of w)
+number_is w = go (decimal_of w) refl
+  where
+    go : (d : Decimal) → d ≡ decimal_of w → number_in w ≡ small_only d
+    go (Number n) e = by_cases (dec_le n 4294967295) (λ h. rw (le-leb n 4294967295 h) (sym (number-right w n e h))) (λ h. rw (lt-leb n 4294967295 (omega arith)) (sym (number-large w n e (omega arith))))
+    go Nothing e = number-none w (sym e)
 
 -- the words read so far, all numbers, whose values stand in an array, and those that are left
 pub record Seen (words left : List (List ℕ)) (numbers : List ℕ) (count : ℕ) : Type 0 where
@@ -153,6 +168,11 @@ pub seen-full : {words left : List (List ℕ)} {numbers : List ℕ} {count : ℕ
 seen-full {words} {left} {numbers} {count} w s e =
     let long : 125 < length words = omega (arith, ap length s.all, length-append s.seen (w ∷ left), s.long) in
     refused words numbers count (rw (lt-leb (length words) 125 long) (and-false (all_numbers words))) s.few s.room
+
+-- and so where a line has another word
+pub full_line : {words : List (List ℕ)} {line numbers : List ℕ} {from count : ℕ} {w : Word} → FirstWord line from w → (w.start ≡ w.end → ⊥) → Seen words (words_of (drop from line)) numbers count → count ≡ 125
+    → NumbersRead words numbers (record { right = false; count = count })
+full_line {w = w} first h s e = seen-full _ (rw (first.found (omega (arith, first.rising))) at s) e
 
 -- two words, byte by byte
 

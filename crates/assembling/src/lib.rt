@@ -109,6 +109,7 @@ fn next_word(line: &[u8], at: usize) -> Word
 }
 
 // The number that a word says, if it is one: digits alone, at most 4294967295.
+#[tactic(auto, using(crate::proofs::Reading::number_is))]
 fn number_of(word: &[u8]) -> Decimal
     ensures { result ≡ number_in word.now }
 {
@@ -128,6 +129,7 @@ struct Numbers {
     count: usize,
 }
 
+#[tactic(auto, using(crate::proofs::Reading::full_line))]
 fn read_numbers(line: &[u8], at: usize, numbers: &mut [u32; 125]) -> Numbers
     requires { (at ≤ length line.now) × (length numbers.old ≡ 125) }
     ensures { NumbersRead (words_of (drop at line.now)) numbers.new result }

@@ -7,7 +7,7 @@ use lib.ListN.{length, drop, length-drop}
 use lib.Seq.{length-take-le}
 use Rattle.assembling.specs.Words.{words_of}
 use Rattle.assembling.specs.Steps.{between}
-use Rattle.assembling.proofs.Reading.{Seen, seen_none, seen_more, seen_all, seen-wrong, seen-full, number_small}
+use Rattle.assembling.proofs.Reading.{Seen, seen_none, seen_more, seen_all, seen-wrong, number_small}
 use Rattle.assembling.proofs.read_numbers.Goals as goal
 use Rattle.assembling.proofs.read_numbers.Goals.{After-next_word-word}
 
@@ -39,9 +39,6 @@ returns-in_default c =
     seen-wrong _ (long (goal.at.returns-in_default c).After-next_word-word c.if-start-end.false) (left (goal.at.returns-in_default c).After-next_word-word c.if-start-end.false)
     (sym c.number_of.ensures ∙ c.in_default.is)
 
-pub returns-then-count-eq125 : goal.returns-then-count-eq125
-returns-then-count-eq125 c = seen-full _ (left (goal.at.returns-then-count-eq125 c).After-next_word-word c.if-start-end.false) c.if-count-eq125.true
-
 pub overflow_cast-numbers : goal.overflow_cast-numbers
 overflow_cast-numbers c = omega (arith, number_small _ _ (sym c.number_of.ensures ∙ c.in-Number.is))
 
@@ -53,5 +50,5 @@ pub loop-at-preserved : goal.loop-at-preserved
 loop-at-preserved c = (
   c.next_word-word.ensures.within,
   seen_more _ _ (left (goal.at.loop-at-preserved c).After-next_word-word c.if-start-end.false)
-      (sym c.number_of.ensures ∙ c.in-Number.is) (omega (arith, c.loop-at.invariant.1.few, c.if-count-eq125.false)),
+      (sym c.number_of.ensures ∙ c.in-Number.is) (omega (arith, c.loop-at.invariant.1.few)),
 )

@@ -44,8 +44,8 @@ returns-then-known-lt8 c =
     let right = not-false _ c.if-not-read.false in
     let taken = c.take_header.ensures in record {
       takes_line = λ d knows stored. header-line d _ knows _ _ _ (split (goal.at.returns-then-known-lt8 c).Else-start-end) (sym c.read_numbers-read.ensures.right ∙ right) _ (c.read_numbers-read.ensures.held right) _ _
-          c.if-known-lt8.true stored c.take_header.ensures.right_value (λ t. c.take_header.ensures.knows t d knows);
-      blocks_bound = (omega (arith, c.take_header.ensures.blocks_value.0, c.requires.2), omega (arith, c.take_header.ensures.blocks_value.1, c.requires.3));
+          c.if-known-lt8.true stored taken.right_value (λ t. taken.knows t d knows);
+      blocks_bound = (omega (arith, taken.blocks_value.0, c.requires.2), omega (arith, taken.blocks_value.1, c.requires.3));
     }
 
 pub returns-else-known-lt8 : goal.returns-else-known-lt8
@@ -53,6 +53,6 @@ returns-else-known-lt8 c =
     let right = not-false _ c.if-not-read.false in
     let taken = c.take_entry.ensures in record {
       takes_line = λ d knows stored. entry-line d _ knows _ _ _ (split (goal.at.returns-else-known-lt8 c).Else-start-end) (sym c.read_numbers-read.ensures.right ∙ right) _ (c.read_numbers-read.ensures.held right) _ _
-          c.if-known-lt8.false c.take_entry.ensures.right_value (λ t. c.take_entry.ensures.knows t d knows stored);
-      blocks_bound = c.take_entry.ensures.blocks_bound;
+          c.if-known-lt8.false taken.right_value (λ t. taken.knows t d knows stored);
+      blocks_bound = taken.blocks_bound;
     }

@@ -19,8 +19,9 @@ decided c = rw c.check_output-output.ensures at c.earlier-answer.ensures
 given : (c : goal.After-verdict_number-number) → let args = c.args in
     let answer = probed (8 * length args.numbers.now) args.verdict args.out.now in
     (c.verdict_number-number.result ≡ verdict_number answer) × (c.verdict_place.result ≡ verdict_place answer)
+unfolding probed
 given c =
-    let same = decided c {-to After-earlier-answer-} in
+    let same = rw c.check_output-output.ensures at c.earlier-answer.ensures in
     (c.verdict_number-number.ensures ∙ ap verdict_number same, c.verdict_place.ensures ∙ ap verdict_place same)
 
 pub put_numbers-requires : goal.put_numbers-requires

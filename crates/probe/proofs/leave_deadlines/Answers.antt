@@ -3,11 +3,10 @@ use Prim.Native.Nat.{◌*◌}
 use mathlib.Core.Path.{◌≡◌}
 use native.Mathlib.Omega.{arith}
 use lib.ListN.{length}
-use borrow.Author.Rules.{rules}
 use Rattle.probe.proofs.leave_deadlines.Goals as goal
 
 pub returns : goal.returns
 returns c =
     let size : 8 * length c.deadlines_numbers-numbers.result ≡ 16 = omega arith in
     let all = rw (size, c.deadlines_numbers-numbers.ensures) at c.leave.ensures in
-    (all.0, all.1.0, all.1.1)
+    (all.value, all.place_after, all.out_after)

@@ -3,7 +3,6 @@ use Prim.Native.Nat.{◌*◌}
 use mathlib.Core.Path.{◌≡◌}
 use native.Mathlib.Omega.{arith}
 use lib.ListN.{length}
-use borrow.Author.Rules.{rules}
 use Rattle.probe.proofs.probe_plan.Goals as goal
 
 pub returns : goal.returns
@@ -15,7 +14,7 @@ returns c =
       verdict = found.result.verdict;
       plan = found.result.plan;
       answer = c.plan-found.ensures.plan_answer;
-      number_is = left-are.0;
-      place_is = left-are.1.0;
-      left_is = left-are.1.1;
+      number_is = left-are.value;
+      place_is = left-are.place_after;
+      left_is = left-are.out_after;
     }

@@ -1,5 +1,4 @@
 -- `probe::probe_replay` meets its contract: what the replay answers is left, two numbers.
-use borrow.Author.Rules.{rules}
 use Rattle.probe.proofs.probe_replay.Goals as goal
 
 pub returns : goal.returns

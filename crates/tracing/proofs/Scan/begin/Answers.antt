@@ -1,13 +1,9 @@
 -- `tracing::Scan::begin` meets its contract: where the line begins with a label and a space, both are right.
-use borrow.Author.Rules.{rules}
 use mathlib.Core.Path.{sym, ap, ◌∙◌}
 use native.Mathlib.Omega.{arith}
 use Rattle.tracing.specs.declared.Scan.{Scan}
 use Rattle.tracing.proofs.Going.{line-begun}
 use Rattle.tracing.proofs.Scan.begin.Goals as goal
-
-pub returns-then-self-ne0 : goal.returns-then-self-ne0
-returns-then-self-ne0 c = search rules
 
 pub go_on-requires : goal.go_on-requires
 go_on-requires c = omega (arith, ap (λ (s : Scan). s.column) c.go_on-label.ensures)

@@ -1,4 +1,4 @@
-//! Links the libraries of the crates `firmware` and `probe`, which lie in PLANNER_LIB_DIR.
+//! Links the libraries of the crates `firmware_c` and `probe`, libfirmware.a and libprobe.a in PLANNER_LIB_DIR.
 
 use std::env;
 

@@ -5,7 +5,7 @@
 # make release      the library, its header, how to link them, the format and the example, in one archive
 # make test-c       unpack the release, call it from C, build its example as LINKING.txt says, and hold the stack of each call to what preempt.h says
 # make test-format  hold docs/FORMAT.txt to the bytes that the C calls take and leave
-# make test-proof   hold docs/PROOF.md to the tree
+# make test-proof   hold docs/PROOF.md to the tree, and to what rt ci printed into the file SAID, if it is given
 # make test-desk    hold what the programs at the desk print to documents 01 and 02
 # make test-front   run the script preempt under each shell at hand, and install, use and uninstall it in a directory of its own
 # make test-picture read the pictures of many files and hold them to what plan prints of each; SEED and COUNT may be given
@@ -133,7 +133,7 @@ test-format: $(LIB)
 	python3 tests/format.py target/test-format/libpreempt.so
 
 test-proof:
-	python3 tests/proof_page.py
+	python3 tests/proof_page.py $(SAID)
 
 test-desk: $(PROGRAMS)
 	tests/desk.sh $(DESK)

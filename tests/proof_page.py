@@ -1,9 +1,11 @@
-# Holds docs/PROOF.md to the tree and to what the last check of each crate said, in target/log/: each name stands in the file that the page gives and is
-# cited by the contract of its call, or is proved, and no statement is left out; functions, axioms, crates and edits are as many as the page says.
+# Holds docs/PROOF.md to the tree: each name stands in the file that the page gives and is cited by the contract of its call, or is proved, and no
+# statement is left out; functions, crates and edits are as many as the page says. proof_page.py FILE holds it also to what rt ci printed, which the file has:
+# the last line of each check, the axioms, and the gate's last line. Of a crate that an earlier run has proved rt ci prints no check.
 import glob
 import os
 import re
 import sys
+from collections import Counter
 
 from trace import stands
 
@@ -40,11 +42,11 @@ def functions(crate):
 
 def promises(text):
     """The lines of a function from its first ensures to its body."""
-    return re.findall(r"(?ms)^ +ensures \{.*?^ *\{$", text)
+    return re.findall(r"(?ms)^ +ensures (?:\w+ )?\{.*?^ *\{$", text)
 
 
 def asks(text):
-    return re.search(r"(?m)^ +requires \{", text)
+    return re.search(r"(?m)^ +requires (?:\w+ )?\{", text)
 
 
 def hold_calls():
@@ -61,10 +63,13 @@ def hold_calls():
 
 
 def hold_public():
-    """Each public function of the planner and of the C calls has a row."""
+    """Each public function of the planner and of the C calls has a row, and C has those of firmware, with the same parameters and clauses."""
     for crate in ("firmware", "planner"):
-        for name in re.findall(r"(?m)^pub (?:extern \"C\" )?fn (\w+)", open(f"crates/{crate}/src/lib.rt", encoding="utf-8").read()):
+        for name in re.findall(r"(?m)^pub fn (\w+)", open(f"crates/{crate}/src/lib.rt", encoding="utf-8").read()):
             hold(f"| `{crate}::{name}` |" in PAGE, f"no row: {crate}::{name}")
+    head = {name: text.partition("\n{\n")[0] for name, text in functions("firmware")}
+    for name, text in functions("firmware_c"):
+        hold(text.partition("\n{\n")[0] == head.get(name), f"firmware_c::{name} has not the contract of firmware::{name}")
 
 
 def statements():
@@ -88,63 +93,69 @@ def hold_statements():
 
 
 class Check:
-    """What a crate's last check said."""
+    """What rt ci printed of a crate's check."""
 
-    def __init__(self, crate):
-        path = f"target/log/{crate}.say"
-        said = open(path, encoding="utf-8").read() if os.path.exists(path) else ""
-        verdict = re.search(r"(?m)^logic=proved functions=(\d+)(?: axioms=(\d+))? .*$", said)
-        hold(verdict, f"{crate}: no verdict in {path}; rt check {crate} makes one")
-        self.line = verdict[0] if verdict else ""
-        self.functions = int(verdict[1]) if verdict else 0
-        self.axioms = int(verdict[2] or 0) if verdict else 0
+    def __init__(self, said):
+        self.line = "".join(re.findall(r"(?m)^logic=proved .*$", said)[-1:])
+        self.proved = Counter(re.findall(r"(?m)^fn \w+(?:::[^:\s]+)*?::(\w+): proved$", said))
+        self.axioms = sum(map(int, re.findall(r" axioms=(\d+)", self.line)))
         self.of = {library: int(count) for library, count in re.findall(r"(?m)^axioms (\w+): .*\((\d+) of the \d+ declared\)$", said)}
+
+
+def checks_in(printed):
+    """The check of each crate that rt ci proved in its run, by name."""
+    parts = re.split(r"(?m)^== (\w+)$", re.sub(r"(?ms)^== \w+: its tests$.*?^rt: \w+: its tests are .*?$", "", printed))
+    return {crate: Check(said) for crate, said in zip(parts[1::2], parts[2::2])}
 
 
 def hold_axioms(checks, programs):
     found = {}
     for names, *counts in rows("Programs"):
         found.update({name: tuple(map(int, counts)) for name in re.findall(r"`(\w+)`", names)})
-    right = {crate: (checks[crate].axioms, checks[crate].of.get("libc", 0), checks[crate].of.get("os", 0)) for crate in programs}
-    for crate in sorted(found.keys() | right.keys()):
-        hold(found.get(crate) == right.get(crate), f"axioms of {crate}: the page has {found.get(crate)}, the check {right.get(crate)}")
-    for crate in checks.keys() - programs:
-        hold(checks[crate].axioms == 0, f"{crate} has axioms")
+    hold(found.keys() == programs, f"axioms: not in the page, or no program: {' '.join(sorted(found.keys() ^ programs))}")
+    for crate, check in checks.items():
+        right = (check.axioms, check.of.get("libc", 0), check.of.get("os", 0))
+        told = found.get(crate, (0, 0, 0))
+        hold(told == right, f"axioms of {crate}: the page has {told}, the check {right}")
 
 
-def hold_counts(checks, programs):
-    libraries = checks.keys() - programs
-    for cells, crates in zip(rows("Crates"), (libraries - PRINTING, libraries & PRINTING, programs)):
-        promised = sum(bool(promises(text)) for crate in crates for _, text in functions(crate))
-        right = sum(checks[crate].functions for crate in crates), promised
+def hold_counts(crates, programs, printed):
+    libraries = set(crates) - programs
+    for cells, some in zip(rows("Crates"), (libraries - PRINTING, libraries & PRINTING, programs)):
+        found = [text for crate in some for _, text in functions(crate)]
+        right = len(found), sum(map(bool, map(promises, found)))
         hold(tuple(map(int, cells[1:])) == right, f"functions of{cells[0]}: {right}")
-        hold(right[0] == sum(len(functions(crate)) for crate in crates), f"functions of{cells[0]} in the sources")
     edits = len(glob.glob("crates/*/must-fail/*.edit"))
-    said = f"`{len(checks) + edits} passed, 0 failed`, of {len(checks)} crates and {edits} edits"
+    passed = f"{len(crates) + edits} passed, 0 failed"
+    said = f"`{passed}`, of {len(crates)} crates and {edits} edits"
     hold(said in PAGE, f"the gate: {said}")
+    hold(not printed or printed.splitlines()[-1] == passed, f"the gate: {printed.splitlines()[-1:]}, and not {passed}")
 
 
-def hold_words(checks):
-    """The words that the page explains are those that stand on the lines, and no other word that trusts something."""
+def hold_checks(checks):
+    """Each function of the sources is proved, the words that the page explains are those on the last lines, and no other word trusts something."""
     explained = {word for cell, _ in rows("Word") for word in re.findall(r"`([\w-]+=[\w,]*)`", cell)}
     for crate, check in checks.items():
+        missing = Counter(name for name, _ in functions(crate)) - check.proved
+        hold(not missing, f"{crate}: not proved: {' '.join(sorted(missing))}")
         words = {word for word in check.line.split() if re.match(r"native=|pinned=|\S+=trusted$", word)}
         hold(words <= explained, f"{crate}: the page does not explain {' '.join(sorted(words - explained))}")
 
 
-def main():
-    crates = re.findall(r"(?m)^(\w+):", open("crates.txt", encoding="utf-8").read())
-    checks = {crate: Check(crate) for crate in crates}
+def main(path=None):
+    crates = re.findall(r"(?m)^(\w+)(?: staticlib)?:", open("crates.txt", encoding="utf-8").read())
     programs = {crate for crate in crates if os.path.exists(f"crates/{crate}/src/main.rt")}
+    printed = open(path, encoding="utf-8").read() if path else ""
+    checks = checks_in(printed)
     hold_calls()
     hold_public()
     hold_statements()
     hold_axioms(checks, programs)
-    hold_counts(checks, programs)
-    hold_words(checks)
+    hold_counts(crates, programs, printed)
+    hold_checks(checks)
     print("\n".join(faults), end="\n" if faults else "")
     sys.exit(bool(faults))
 
 
 if __name__ == "__main__":
-    main()
+    main(*sys.argv[1:])

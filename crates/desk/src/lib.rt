@@ -112,7 +112,8 @@ pub fn first(points: &[u16], count: usize) -> &[u16]
 
 // Reads until a buffer is full or the input ends, and answers how many bytes stand in it then.
 fn read_full<R: Read>(input: &mut R, buffer: &mut [u8]) -> io::Result<usize>
-    ensures { ReadsAtMost result buffer.new }
+    ensures read { ReadsAtMost result buffer.new }
+    ensures kept { length buffer.new ≡ length buffer.old }
 {
     let mut done = 0;
     while done < buffer.len() {
@@ -125,9 +126,11 @@ fn read_full<R: Read>(input: &mut R, buffer: &mut [u8]) -> io::Result<usize>
     Ok(done)
 }
 
-// Reads what stands on standard input into a buffer, and answers how many bytes.
+// Reads what stands on standard input into a buffer, and answers how many bytes. An error leaves the buffer as long as it was, and in it what was read
+// before.
 pub fn read_input(rt: &impl Input, buffer: &mut [u8]) -> io::Result<usize>
-    ensures { ReadsAtMost result buffer.new }
+    ensures read { ReadsAtMost result buffer.new }
+    ensures kept { length buffer.new ≡ length buffer.old }
 {
     let mut input = rt.reader();
     read_full(&mut input, buffer)
@@ -135,7 +138,8 @@ pub fn read_input(rt: &impl Input, buffer: &mut [u8]) -> io::Result<usize>
 
 // Reads the file of a name, which is text, into a buffer, and answers how many bytes.
 fn read_file(rt: &impl Files, name: &[u8], buffer: &mut [u8]) -> io::Result<usize>
-    ensures { ReadsAtMost result buffer.new }
+    ensures read { ReadsAtMost result buffer.new }
+    ensures kept { length buffer.new ≡ length buffer.old }
 {
     let Ok(path) = str::from_utf8(name) else {
         return Err(Error::from(ErrorKind::InvalidFilename));
@@ -152,6 +156,7 @@ pub fn read_named(
 ) -> io::Result<FileRead>
     ensures in_bounds { IfOk result (λ read. read.count ≤ length buffer.new) }
     ensures prefix { IfOk result (λ read. read.count ≡ length (take read.count buffer.new)) }
+    ensures kept { length buffer.new ≡ length buffer.old }
 {
     let mut name = [0u8; 4096];
     let n = fill_argument(rt, i, &mut name);

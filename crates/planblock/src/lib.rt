@@ -2,21 +2,13 @@
 #![tactic(auto)]
 
 ghost use Rattle.std.specs.Prelude.{◌≡◌, ◌++◌, ◌+◌, ◌-◌, ◌*◌, ◌≤◌, length, take, replicate};
-ghost use Rattle.model.specs.Answers.{on_accepted};
-ghost use Rattle.model.specs.Planning.{no_plan};
+ghost use Rattle.model.specs.Answers.{answered};
 ghost use Rattle.block.specs.Bytes.{packed, les, field, fields};
 ghost use Rattle.block.specs.Blocks.{numbered};
 ghost use Rattle.planvalue.specs.Values.{plan_verdict};
 ghost use Rattle.planblock.specs.Plans.{plan_numbers, plan_named, plan_bytes, plan_of, plan_right, put, read_verdict, store_verdict, stored};
 
 use model::{Plan, Refusal};
-
-// What reading answers: the plan is all zeros where the verdict is a refusal.
-#[derive(Clone, Copy)]
-pub struct PlanRead {
-    pub verdict: Result<(), Refusal>,
-    pub plan: Plan,
-}
 
 // Stores the numbers before the points. The first two bytes are the kind, 4, and a zero.
 fn put_head(plan: Plan, out: &mut [u8])
@@ -37,10 +29,8 @@ fn put_points(points: [u16; 64], count: usize, out: &mut [u8])
     requires count_bound { count ≤ 63 }
     ensures { take (20 + 2 * count) out.new ≡ take 20 out.old ++ les 2 (take count points) }
 {
-    let mut i = 0;
-    while i < count {
+    for i in 0..count {
         block::put_u16(out, 20 + 2 * i, points[i]);
-        i += 1;
     }
 }
 
@@ -88,30 +78,16 @@ pub fn put_plan(plan: Plan, out: &mut [u8])
     }
 }
 
-// Stores a plan where it was accepted.
-fn put_accepted(verdict: Result<(), Refusal>, plan: Plan, out: &mut [u8])
-    requires out_len { length out.old ≡ 512 }
-    requires verdict_value { verdict ≡ plan_verdict plan }
-    ensures { out.new ≡ on_accepted verdict (plan_bytes plan) out.old }
-{
-    match verdict {
-        Ok(()) => put_block(plan, out),
-        Err(_) => {}
-    }
-}
-
 // Stores a plan in a lent buffer: 9 for the buffer's length, then 7 for the plan. On a refusal the buffer stays what it was.
+#[tactic(auto, unfolding(crate::specs::Plans::store_verdict, crate::specs::Plans::stored))]
 pub fn store(plan: Plan, out: &mut [u8]) -> Result<(), Refusal>
     ensures value { result ≡ store_verdict plan out.old }
     ensures out_after { out.new ≡ stored plan out.old }
 {
-    let output = answers::check_output(512, out.len());
-    let Ok(()) = output else {
-        return output;
-    };
-    let verdict = planvalue::check(plan);
-    put_accepted(verdict, plan, out);
-    verdict
+    answers::check_output(512, out.len())?;
+    planvalue::check(plan)?;
+    put_block(plan, out);
+    Ok(())
 }
 
 // The points of a block, and zeros beyond the count.
@@ -121,10 +97,8 @@ fn points_of(bytes: &[u8], count: usize) -> [u16; 64]
     ensures { result ≡ fields bytes.now 20 2 count ++ replicate (64 - count) 0 }
 {
     let mut points = [0u16; 64];
-    let mut i = 0;
-    while i < count {
+    for i in 0..count {
         points[i] = block::u16_at(bytes, 20 + 2 * i);
-        i += 1;
     }
     points
 }
@@ -147,16 +121,6 @@ fn plan_of(bytes: &[u8]) -> Plan
     }
 }
 
-// What is answered where no plan is read.
-fn refused_read(refusal: Refusal) -> PlanRead
-    ensures { (result.verdict ≡ Err refusal) × (result.plan ≡ no_plan) }
-{
-    PlanRead {
-        verdict: Err(refusal),
-        plan: answers::no_plan(),
-    }
-}
-
 // Whether a block of this plan is right.
 fn plan_right(bytes: &[u8], plan: Plan) -> bool
     requires bytes_len { length bytes.now ≡ 512 }
@@ -164,33 +128,26 @@ fn plan_right(bytes: &[u8], plan: Plan) -> bool
     requires count_bound { plan.count ≤ 63 }
     ensures { result ≡ plan_right bytes.now }
 {
-    let verdict = planvalue::check(plan);
-    match verdict {
-        Ok(()) => block::body_right(bytes, 0, 4, 0, 20 + 2 * plan.count as usize),
-        Err(_) => false,
-    }
+    planvalue::check(plan).is_ok()
+        && block::body_right(bytes, 0, 4, 0, 20 + 2 * plan.count as usize)
 }
 
 // Reads a plan from any bytes: 1 for the length, 2 for the checksum, 5 for the rest.
-pub fn read(bytes: &[u8]) -> PlanRead
-    ensures verdict_value { result.verdict ≡ read_verdict bytes.now }
-    ensures plan_value { result.plan ≡ on_accepted (read_verdict bytes.now) (plan_of bytes.now) no_plan }
+pub fn read(bytes: &[u8]) -> Result<Plan, Refusal>
+    ensures { result ≡ answered (read_verdict bytes.now) (plan_of bytes.now) }
 {
     if bytes.len() != 512 {
-        return refused_read(Refusal::Length);
+        return Err(Refusal::Length);
     }
     if !block::checksum_right(bytes) {
-        return refused_read(Refusal::Checksum(0));
+        return Err(Refusal::Checksum(0));
     }
     if 63 < block::u16_at(bytes, 4) {
-        return refused_read(Refusal::WrongBlock(0));
+        return Err(Refusal::WrongBlock(0));
     }
     let plan = plan_of(bytes);
     if !plan_right(bytes, plan) {
-        return refused_read(Refusal::WrongBlock(0));
+        return Err(Refusal::WrongBlock(0));
     }
-    PlanRead {
-        verdict: Ok(()),
-        plan,
-    }
+    Ok(plan)
 }

@@ -43,10 +43,8 @@ fn any_behind(points: &[u16; 64], count: usize) -> u16
     ensures { (k : ℕ) → count ≤ k → k < 64 → get_or points.now k 0 ≤ result }
 {
     let mut any = 0;
-    let mut i = count;
-    while i < 64 {
+    for i in count..64 {
         any |= points[i];
-        i += 1;
     }
     any
 }
@@ -56,12 +54,10 @@ fn first_wrong(blocks: u16, count: usize, points: &[u16; 64], end: usize) -> Res
     requires { end ≤ 64 }
     ensures { result ≡ refused_at (lowest_from (point_right blocks count points.now) 0 end) Argument accept }
 {
-    let mut i = 0;
-    while i < end {
+    for i in 0..end {
         if !point_right(blocks, count, points, i) {
             return Err(Refusal::Argument(i));
         }
-        i += 1;
     }
     Ok(())
 }
@@ -81,16 +77,11 @@ fn check_points(plan: Plan) -> Result<(), Refusal>
 }
 
 // Whether N is 1 to 64 and the count at most 63.
+#[tactic(auto, unfolding(crate::specs::Values::plan_in_range))]
 fn in_range(plan: Plan) -> bool
     ensures { result ≡ plan_in_range plan }
 {
-    if plan.blocks < 1 {
-        return false;
-    }
-    if 64 < plan.blocks {
-        return false;
-    }
-    plan.count <= 63
+    (1 <= plan.blocks) & (plan.blocks <= 64) & (plan.count <= 63)
 }
 
 // Whether a plan can be stored.

@@ -1,6 +1,6 @@
 -- The regions of a list, one at a time, and what the price of a list is.
 -- Assumes nothing.
-use Rattle.std.specs.Prelude.{Err, None, Some}
+use Rattle.std.specs.Prelude.{Err, None, Ok, Some}
 use Prim.Native.Nat.{ℕ, suc, ◌+◌, ◌*◌, ◌^◌, ◌≤◌, ◌<◌}
 use mathlib.Core.Path.{◌≡◌, refl, sym, ◌∙◌}
 use mathlib.Core.Bool.{true, false, cond}
@@ -20,7 +20,7 @@ use Rattle.model.specs.Regions.{region_lines, region_fits, region_cost, region_a
 use Rattle.model.specs.Answers.{accept, pricing}
 use Rattle.model.specs.declared.Refusal.{Refusal}
 use Rattle.model.specs.declared.Refusal.TheVariants.{Argument, AboveLimit}
-use Rattle.pricing.specs.Prices.{Prices}
+use Rattle.pricing.specs.Prices.{price_of}
 
 -- the regions of a list from region i on, which starts at edge a
 pub regions_from : ℕ → List ℕ → ℕ → ℕ → List Region
@@ -112,9 +112,8 @@ module _ (t : Task) (ps : List ℕ) where
   pub accepted-pricing : wrong_point (block_count t) ps ≡ None → region_above t ps ≡ None → pricing t ps ≡ accept
   accepted-pricing e f = rw (e, f) refl
 
-  pub refused-prices : {r : Refusal} → pricing t ps ≡ Err r → Prices t ps (record { verdict = Err r; lines = 0; cost = 0 })
-  refused-prices e = record { verdict = sym e; lines = rw e refl; cost = rw e refl }
+  pub refused-price : {r : Refusal} → pricing t ps ≡ Err r → Err r ≡ price_of t ps
+  refused-price e = rw e refl
 
-  pub accepted-prices : {m x : ℕ} → pricing t ps ≡ accept → lines t ps ≡ m → cost t ps ≡ x
-      → Prices t ps (record { verdict = accept; lines = m; cost = x })
-  accepted-prices e f g = record { verdict = sym e; lines = rw (e, f) refl; cost = rw (e, g) refl }
+  pub accepted-price : {m x : ℕ} → pricing t ps ≡ accept → lines t ps ≡ m → cost t ps ≡ x → Ok (record { lines = m; cost = x }) ≡ price_of t ps
+  accepted-price e f g = rw (e, f, g) refl

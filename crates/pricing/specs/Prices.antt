@@ -1,24 +1,20 @@
 -- What pricing answers of a task t. Assumes nothing.
-use Rattle.std.specs.Prelude.{ℕ, ◌≤◌, ◌<◌, ◌≡◌, List, ◌∷◌, length, get_or}
+use Rattle.std.specs.Prelude.{ℕ, ◌≤◌, ◌<◌, ◌≡◌, List, ◌∷◌, length, get_or, Result}
 use Rattle.model.specs.Task.{Task, block_count}
 use Rattle.model.specs.Regions.{region_lines, lines, cost}
-use Rattle.model.specs.Charges.{charges, no_charges}
-use Rattle.model.specs.Answers.{pricing, on_accepted}
+use Rattle.model.specs.Charges.{charges}
+use Rattle.model.specs.Answers.{pricing, answered}
+use Rattle.model.specs.declared.Refusal.{Refusal}
 use Rattle.pricing.specs.declared.Price.{Price}
 use Rattle.pricing.specs.declared.ChargedPrice.{ChargedPrice}
 
--- the price of the list of points ps
-pub record Prices (t : Task) (ps : List ℕ) (r : Price) : Type 0 where
-  pub verdict : r.verdict ≡ pricing t ps
-  pub lines : r.lines ≡ on_accepted (pricing t ps) (lines t ps) 0
-  pub cost : r.cost ≡ on_accepted (pricing t ps) (cost t ps) 0
+-- the price of the list of points ps, or its refusal
+abbrev pub price_of : Task → List ℕ → Result Price Refusal
+price_of t ps = answered (pricing t ps) (record { lines = lines t ps; cost = cost t ps })
 
--- and the charges of the preempters, none with a refusal
-pub record ChargedPrices (t : Task) (ps : List ℕ) (r : ChargedPrice) : Type 0 where
-  pub verdict : r.verdict ≡ pricing t ps
-  pub lines : r.lines ≡ on_accepted (pricing t ps) (lines t ps) 0
-  pub cost : r.cost ≡ on_accepted (pricing t ps) (cost t ps) 0
-  pub charges : r.charges ≡ on_accepted (pricing t ps) (charges t ps) no_charges
+-- and the charges of the preempters with it
+abbrev pub charged_price_of : Task → List ℕ → Result ChargedPrice Refusal
+charged_price_of t ps = answered (pricing t ps) (record { lines = lines t ps; cost = cost t ps; charges = charges t ps })
 
 -- at i stands how many lines region i of the list ps loads: from the point before it, 0 before the first, to its own point, N after the last
 pub record Loads (t : Task) (ps counts : List ℕ) : Type 0 where

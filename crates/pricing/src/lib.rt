@@ -8,58 +8,56 @@ ghost use Rattle.model.specs.Lines.{same_block};
 ghost use Rattle.model.specs.Lists.{wrong_point};
 ghost use Rattle.model.specs.Charges as Charges;
 ghost use Rattle.model.specs.Charges.{no_charges};
-ghost use Rattle.model.specs.Answers.{on_accepted};
 ghost use Rattle.taskfile.specs.File.{IsAccepted, task_of};
-ghost use Rattle.pricing.specs.Prices.{Prices, ChargedPrices, Loads, RestStays};
+ghost use Rattle.pricing.specs.Prices.{price_of, charged_price_of, Loads, RestStays};
 
 use model::{Line, Refusal};
 
-// What pricing a list answers: its lines and cost, or zeros with a refusal.
+// What a list of points costs: its lines and its cost.
 #[derive(Clone, Copy)]
 pub struct Price {
-    pub verdict: Result<(), Refusal>,
     pub lines: u64,
     pub cost: u64,
 }
 
-// The same with each preempter's charge, from 0; a refusal charges nothing.
+// The same with each preempter's charge, from 0.
 #[derive(Clone, Copy)]
 pub struct ChargedPrice {
-    pub verdict: Result<(), Refusal>,
     pub lines: u64,
     pub cost: u64,
     pub charges: [u32; 32],
 }
 
 // The price of a list of points: 7 at its lowest wrong point, then 8 at its lowest region that does not fit.
-pub fn price_of(file: &[u8], points: &[u16]) -> Price
+pub fn price_of(file: &[u8], points: &[u16]) -> Result<Price, Refusal>
     requires { IsAccepted file.now }
-    ensures { Prices (task_of file.now) points.now result }
+    ensures { result ≡ price_of (task_of file.now) points.now }
 {
-    match pointlist::wrong_point(points, taskfile::block_count(file)) {
-        Some(i) => no_price(Refusal::Argument(i)),
-        None => {
-            let mut lines = [0u32; 64];
-            count_lines(file, points, &mut lines);
-            price_regions(file, points, &lines)
-        }
+    if let Some(i) = pointlist::wrong_point(points, taskfile::block_count(file)) {
+        return Err(Refusal::Argument(i));
     }
+    let mut lines = [0u32; 64];
+    count_lines(file, points, &mut lines);
+    price_regions(file, points, &lines)
 }
 
 // The same with charges.
-pub fn charged_price_of(file: &[u8], points: &[u16]) -> ChargedPrice
+pub fn charged_price_of(file: &[u8], points: &[u16]) -> Result<ChargedPrice, Refusal>
     requires { IsAccepted file.now }
-    ensures { ChargedPrices (task_of file.now) points.now result }
+    ensures { result ≡ charged_price_of (task_of file.now) points.now }
 {
-    match pointlist::wrong_point(points, taskfile::block_count(file)) {
-        Some(i) => with_charges(no_price(Refusal::Argument(i)), [0u32; 32]),
-        None => {
-            let mut lines = [0u32; 64];
-            let mut charges = [0u32; 32];
-            charge_lines(file, points, &mut lines, &mut charges);
-            with_charges(price_regions(file, points, &lines), charges)
-        }
+    if let Some(i) = pointlist::wrong_point(points, taskfile::block_count(file)) {
+        return Err(Refusal::Argument(i));
     }
+    let mut lines = [0u32; 64];
+    let mut charges = [0u32; 32];
+    charge_lines(file, points, &mut lines, &mut charges);
+    let price = price_regions(file, points, &lines)?;
+    Ok(ChargedPrice {
+        lines: price.lines,
+        cost: price.cost,
+        charges,
+    })
 }
 
 // The charges of a well-formed list.
@@ -177,9 +175,9 @@ fn loads(line: Line, number: u32, evicted: bool, earlier: bool) -> u32
 }
 
 // The price of a well-formed list, from the lines of its regions.
-fn price_regions(file: &[u8], points: &[u16], lines: &[u32; 64]) -> Price
+fn price_regions(file: &[u8], points: &[u16], lines: &[u32; 64]) -> Result<Price, Refusal>
     requires { IsAccepted file.now × (wrong_point (block_count (task_of file.now)) points.now ≡ None) × Loads (task_of file.now) points.now lines.now }
-    ensures { Prices (task_of file.now) points.now result }
+    ensures { result ≡ price_of (task_of file.now) points.now }
 {
     let n = taskfile::block_count(file);
     let mut total = 0u64;
@@ -190,18 +188,14 @@ fn price_regions(file: &[u8], points: &[u16], lines: &[u32; 64]) -> Price
         let b = edge_after(points, i, n);
         let region = regions::weigh_between(file, a, b, lines[i]);
         if !region.fits {
-            return no_price(Refusal::AboveLimit(i));
+            return Err(Refusal::AboveLimit(i));
         }
         total += lines[i] as u64;
         cost += region.cost;
         a = b;
         i += 1;
     }
-    Price {
-        verdict: Ok(()),
-        lines: total,
-        cost,
-    }
+    Ok(Price { lines: total, cost })
 }
 
 // The edge at the end of region i: a point, or n after the last.
@@ -212,34 +206,5 @@ pub fn edge_after(points: &[u16], i: usize, n: usize) -> usize
         points[i] as usize
     } else {
         n
-    }
-}
-
-// A price with these charges, or with none where it is a refusal.
-fn with_charges(price: Price, charges: [u32; 32]) -> ChargedPrice
-    ensures verdict_value { (result.verdict ≡ price.verdict) × (result.lines ≡ price.lines) × (result.cost ≡ price.cost) }
-    ensures charges_value { result.charges ≡ on_accepted price.verdict charges no_charges }
-{
-    let verdict = price.verdict;
-    let kept = match verdict {
-        Ok(()) => charges,
-        Err(_) => [0u32; 32],
-    };
-    ChargedPrice {
-        verdict,
-        lines: price.lines,
-        cost: price.cost,
-        charges: kept,
-    }
-}
-
-// What is answered of a list that is refused.
-fn no_price(refusal: Refusal) -> Price
-    ensures { result ≡ record { verdict = Err refusal; lines = 0; cost = 0 } }
-{
-    Price {
-        verdict: Err(refusal),
-        lines: 0,
-        cost: 0,
     }
 }

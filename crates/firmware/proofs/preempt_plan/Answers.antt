@@ -6,7 +6,7 @@ use Rattle.model.specs.Answers.{accept, output_row}
 use Rattle.model.proofs.Verdicts.{output-size}
 use Rattle.firmware.proofs.Calls.{plan-most, plan-stores, plan-output, plan-call}
 use Rattle.firmware.proofs.preempt_plan.Goals as goal
-use Rattle.firmware.proofs.preempt_plan.Goals.{In-Accepted}
+use Rattle.firmware.proofs.preempt_plan.Goals.{In-Ok}
 
 -- the block is of 512 bytes
 row : (c : goal.In-Ok) → output_row 512 (length c.args.block.now) ≡ accept

@@ -7,7 +7,7 @@ use Rattle.model.proofs.Verdicts.{output-size}
 use Rattle.firmware.specs.Calls.{returned, price_call_verdict, price_returned, price_left}
 use Rattle.firmware.proofs.Calls.{block-most, block-stores, block-left}
 use Rattle.firmware.proofs.preempt_price.Goals as goal
-use Rattle.firmware.proofs.preempt_price.Goals.{In-Accepted}
+use Rattle.firmware.proofs.preempt_price.Goals.{In-Ok}
 
 -- the block is of 512 bytes
 row : (c : goal.In-Ok) → output_row 512 (length c.args.block.now) ≡ accept

@@ -13,7 +13,7 @@ use Rattle.taskfile.specs.File.{task_of}
 use Rattle.taskfile.proofs.Accepted.{few-blocks}
 use Rattle.pointlist.proofs.Points.{region-edges}
 use Rattle.pricing.proofs.Pricing.{start_of, passed_none, passed-more, passed-above, passed-end}
-use Rattle.pricing.proofs.Pricing.{above-pricing, accepted-pricing, refused-prices, accepted-prices}
+use Rattle.pricing.proofs.Pricing.{above-pricing, accepted-pricing, refused-price, accepted-price}
 use Rattle.pricing.proofs.price_regions.Goals as goal
 use Rattle.pricing.proofs.price_regions.Goals.{After-edge_after-b}
 
@@ -64,7 +64,7 @@ returns-then-not-region c =
     let region = c.weigh_between-region in
     let above = passed-above c.loop-i.invariant.0 c.loop-i-test.true
     (rw (c.loop-i.invariant.1, edge (goal.at.returns-then-not-region c).After-edge_after-b) at (sym region.ensures.2 ∙ not-true c.weigh_between-region.result.fits c.if-not-region.true)) in
-    rw c.no_price.ensures (refused-prices _ _ (above-pricing _ _ c.requires.1 above))
+    refused-price _ _ (above-pricing _ _ c.requires.1 above)
 
 pub offset_bounds-lines-i-in-loop-i : goal.offset_bounds-lines-i-in-loop-i
 offset_bounds-lines-i-in-loop-i c = omega (arith, few (goal.at.offset_bounds-lines-i-in-loop-i c).After-edge_after-b)
@@ -98,4 +98,4 @@ loop-i-preserved c =
 pub returns : goal.returns
 returns c =
     let end = passed-end c.loop-i.invariant.0 c.loop-i-test.false in
-    accepted-prices _ _ (accepted-pricing _ _ c.requires.1 end.0) end.1 end.2
+    accepted-price _ _ (accepted-pricing _ _ c.requires.1 end.0) end.1 end.2

@@ -15,7 +15,7 @@ use Rattle.taskfile.proofs.Accepted as accepted-file
 use Rattle.cacheline.proofs.Below.{line-below}
 use Rattle.replaying.proofs.Steps.{at-start, read-skip, read_more, pass-edge, at-end}
 use Rattle.replaying.proofs.count_misses.Goals as goal
-use Rattle.replaying.proofs.count_misses.Goals.{in-Uncached, in-Cached, In-Cached}
+use Rattle.replaying.proofs.count_misses.Goals.{in-None, in-Some, In-Some}
 
 pub loop-i-init : goal.loop-i-init
 loop-i-init c =

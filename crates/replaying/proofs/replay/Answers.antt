@@ -7,7 +7,7 @@ use Rattle.model.specs.Lists.{wrong_point}
 use Rattle.taskfile.specs.File.{verdict, task_of}
 use Rattle.replaying.specs.Calls.{replay_verdict, misses_alone_of, misses_with_of}
 use Rattle.replaying.proofs.replay.Goals as goal
-use Rattle.replaying.proofs.replay.Goals.{After-wrong_point, In-Accepted}
+use Rattle.replaying.proofs.replay.Goals.{After-wrong_point, In-Ok}
 
 -- past the check the file is accepted
 accepted : (c : goal.In-Ok) → verdict c.args.file.now ≡ accept

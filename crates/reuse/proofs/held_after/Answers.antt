@@ -16,7 +16,7 @@ use Rattle.taskfile.specs.File.{task_of}
 use Rattle.taskfile.proofs.Accepted as accepted-file
 use Rattle.cacheline.proofs.Below.{line-below}
 use Rattle.reuse.proofs.held_after.Goals as goal
-use Rattle.reuse.proofs.held_after.Goals.{in-Uncached, in-Cached, In-Cached}
+use Rattle.reuse.proofs.held_after.Goals.{in-None, in-Some, In-Some}
 
 pub loop-i-init : goal.loop-i-init
 unfolding reads_of

@@ -8,7 +8,7 @@ use borrow.Author.Tests.{lt-ltb}
 use Rattle.cacheline.proofs.Below.{line-below}
 use Rattle.reuse.proofs.Marks.{one-marked, one_number, marked-before, marked-twice, marked-first}
 use Rattle.reuse.proofs.note.Goals as goal
-use Rattle.reuse.proofs.note.Goals.{In-Cached}
+use Rattle.reuse.proofs.note.Goals.{In-Some}
 
 -- the line is one of the arrays
 below : (c : goal.In-Some) → c.in-Some.c < 512

@@ -12,7 +12,7 @@ use lib.Seq.{get_or-set_same, get_or-set_other}
 use borrow.Author.Tests.{eq-eqb, ne_eqb}
 use Rattle.cacheline.proofs.Below.{line-below}
 use Rattle.reuse.proofs.note_reader.Goals as goal
-use Rattle.reuse.proofs.note_reader.Goals.{In-Cached}
+use Rattle.reuse.proofs.note_reader.Goals.{In-Some}
 
 -- one line more
 one_reader : (readers : List ℕ) (line by v d : ℕ) → line < length readers → v ≡ cond (eqb (get_or readers line 0) 0) by (get_or readers line 0)

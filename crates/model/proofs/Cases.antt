@@ -1,6 +1,7 @@
 -- Every case of `cases` holds: a test that antt computes over the whole list, and one law that takes a passed test to the claim. A claim about
 -- every list of points is tested on the enumeration of all of them. Assumes nothing.
-use Rattle.std.specs.Prelude.{Err, None, Ok, Option, Some}
+use Rattle.model.specs.declared.Refusal.{Refusal}
+use Rattle.std.specs.Prelude.{Err, None, Ok, Option, Some, Result}
 use Prim.Native.Nat.{ℕ, zero, suc, ◌-◌, ◌<◌, ◌≤◌}
 use mathlib.Core.Path.{◌≡◌, refl, sym, ap, ◌∙◌}
 use mathlib.Core.Bool.{Bool, true, false, not, ◌&&◌, ◌||◌, beq, false≢true, and-eq-true_iff}
@@ -52,7 +53,7 @@ some : List (List ℕ) → Bool
 some [] = false
 some (ps ∷ pss) = true
 
-refused_by : ℕ → ℕ → Verdict → Bool
+refused_by : {A : Type 0} → ℕ → ℕ → Result A Refusal → Bool
 refused_by n i (Ok u) = false
 refused_by n i (Err r) = eqb (number r) n && eqb (place r) i
 
@@ -81,7 +82,7 @@ test (length_is t a b l) = eqb (region_length t a b) l
 test (best_are t p pss) = some pss && every_list (λ ps. eqb (cost t ps) p) pss && exactly t (λ ps. fits t ps && leb (cost t ps) p) pss
 test (first_is t ps) = well_formed (block_count t) ps && fits t ps && on_all t (ahead t ps)
 test (fitting_are t pss) = exactly t (fits t) pss
-test (none_fits t n i) = on_all t (λ ps. not (fits t ps)) && refused_by n i (Err NoPlacement)
+test (none_fits t n i) = on_all t (λ ps. not (fits t ps)) && refused_by {A = Plan} n i (Err NoPlacement)
 test (priced t ps l p) = accepted (pricing t ps) && eqb (lines t ps) l && eqb (cost t ps) p
 test (refused t ps n i) = refused_by n i (pricing t ps)
 test (line_is t m c) = same_mapping (line_of t m) (Some c)
@@ -193,14 +194,14 @@ module _ (t : Task) (ps : List ℕ) (w : well_formed (block_count t) ps ≡ true
             two_cases qs v g (λ l. absurd (omega arith)) (λ d s. or_cases (same_list ps qs) (before ps qs) s (λ h. absurd (ne (same-list ps qs h))) (λ h. h));
       }
 
-  gives : (v : Verdict) (p : Plan) → Planned t v p → (v ≡ accept) × (chosen p ≡ ps)
-  gives v p planned = go planned.answers
+  gives : (r : Result Plan Refusal) → Planned t r → (p : Plan) × (r ≡ Ok p) × (chosen p ≡ ps)
+  gives r planned = go planned.answers
     where
-      go : (v ≡ accept) ⊎ (v ≡ Err NoPlacement) → (v ≡ accept) × (chosen p ≡ ps)
-      go (inl e) = (e, one-first (block_count t) (region_fits t) (region_cost t) (chosen p) ps (planned.best e) is-first)
+      go : ((p : Plan) × (r ≡ Ok p)) ⊎ (r ≡ Err NoPlacement) → (p : Plan) × (r ≡ Ok p) × (chosen p ≡ ps)
+      go (inl (p, e)) = (p, e, one-first (block_count t) (region_fits t) (region_cost t) (chosen p) ps (planned.best p e) is-first)
       go (inr e) = absurd (planned.none-fits e ps w f)
 
-is-refused : (n i : ℕ) (v : Verdict) → refused_by n i v ≡ true → RefusedBy n i v
+is-refused : {A : Type 0} (n i : ℕ) (v : Result A Refusal) → refused_by n i v ≡ true → RefusedBy n i v
 unfolding refused_by
 is-refused n i (Ok u) h = absurd (false≢true h)
 is-refused n i (Err r) h =
@@ -240,9 +241,9 @@ sound (first_is t ps) h =
     (is-first t ps two.0 two.1 three.1, gives t ps two.0 two.1 three.1)
 sound (fitting_are t pss) h = exact t (fits t) pss h
 sound (none_fits t n i) h =
-    let both = (and-eq-true_iff (on_all t (λ ps. not (fits t ps))) (refused_by n i (Err NoPlacement))).0 h in
+    let both = (and-eq-true_iff (on_all t (λ ps. not (fits t ps))) (refused_by {A = Plan} n i (Err NoPlacement))).0 h in
     let none : NoPlacementFits t = λ ps w f. false≢true (sym (not-true (fits t ps) (on-all t (λ ps. not (fits t ps)) both.0 ps w)) ∙ f) in
-    (none, λ v p planned. rw (planned.exactly none) (is-refused n i (Err NoPlacement) both.1))
+    (none, λ r planned. rw (planned.exactly none) (is-refused n i (Err NoPlacement) both.1))
 sound (priced t ps l p) h =
     let three = (and-eq-true_iff (accepted (pricing t ps) && eqb (lines t ps) l) (eqb (cost t ps) p)).0 h in
     let two = (and-eq-true_iff (accepted (pricing t ps)) (eqb (lines t ps) l)).0 three.0 in

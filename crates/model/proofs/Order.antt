@@ -1,7 +1,6 @@
 -- The order of lists: irreflexive, transitive, total. So the first of the lists of least cost is one list, and planning's answer one answer.
 -- Assumes nothing.
-use Rattle.std.specs.Prelude.{Err}
-use Rattle.model.specs.Answers.{accept}
+use Rattle.std.specs.Prelude.{Err, Ok}
 use Prim.Native.Nat.{ℕ, ◌<◌}
 use mathlib.Core.Path.{◌≡◌, refl, sym, ap, ap₂, ◌∙◌}
 use mathlib.Core.Bool.{Bool, true, false, ◌&&◌, ◌||◌, or-true, false≢true, and-eq-true_iff}
@@ -17,6 +16,7 @@ use Rattle.model.specs.Lists.{before}
 use Rattle.model.specs.Regions.{region_fits, region_cost}
 use Rattle.model.specs.Planning.{chosen, plan_for}
 use Rattle.model.specs.Laws.{BeforeIrreflexive, BeforeTransitive, BeforeTotal, OneFirst, OnePlan}
+use Rattle.model.specs.declared.Plan.{Plan}
 use Rattle.model.specs.declared.Refusal.TheVariants.{NoPlacement}
 
 pub three_ways : (p q : ℕ) → (p < q) ⊎ ((p ≡ q) ⊎ (q < p))
@@ -88,12 +88,12 @@ one-first n fit cost ps qs a b =
     absurd (false≢true (sym (before-irreflexive ps) ∙ before-transitive ps qs ps ahead behind)))
 
 pub one-plan : OnePlan
-one-plan t v w p q a b = go a.answers b.answers
+one-plan t r s a b = go a.answers b.answers
   where
-    go : (v ≡ accept) ⊎ (v ≡ Err NoPlacement) → (w ≡ accept) ⊎ (w ≡ Err NoPlacement) → (v ≡ w) × (p ≡ q)
-    go (inl e) (inl f) =
-        let same = one-first (block_count t) (region_fits t) (region_cost t) (chosen p) (chosen q) (a.best e) (b.best f) in
-        (e ∙ sym f, a.follows e ∙ ap (plan_for t) same ∙ sym (b.follows f))
-    go (inl e) (inr f) = let found = (a.best e).least-cost in absurd (b.none-fits f (chosen p) found.well-formed found.fits)
-    go (inr e) (inl f) = let found = (b.best f).least-cost in absurd (a.none-fits e (chosen q) found.well-formed found.fits)
-    go (inr e) (inr f) = (e ∙ sym f, a.empty e ∙ sym (b.empty f))
+    go : ((p : Plan) × (r ≡ Ok p)) ⊎ (r ≡ Err NoPlacement) → ((q : Plan) × (s ≡ Ok q)) ⊎ (s ≡ Err NoPlacement) → r ≡ s
+    go (inl (p, e)) (inl (q, f)) =
+        let same = one-first (block_count t) (region_fits t) (region_cost t) (chosen p) (chosen q) (a.best p e) (b.best q f) in
+        e ∙ ap Ok (a.follows p e ∙ ap (plan_for t) same ∙ sym (b.follows q f)) ∙ sym f
+    go (inl (p, e)) (inr f) = let found = (a.best p e).least-cost in absurd (b.none-fits f (chosen p) found.well-formed found.fits)
+    go (inr e) (inl (q, f)) = let found = (b.best q f).least-cost in absurd (a.none-fits e (chosen q) found.well-formed found.fits)
+    go (inr e) (inr f) = e ∙ sym f

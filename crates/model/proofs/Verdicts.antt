@@ -1,18 +1,33 @@
 -- A verdict accepts or refuses, and never both; two in order accept if each does.
 -- Assumes nothing.
-use Rattle.std.specs.Prelude.{Err, Ok}
+use Rattle.std.specs.Result.{result_unwrap_or}
+use Rattle.std.specs.Prelude.{Err, Ok, Result}
 use Prim.Native.Nat.{ℕ}
-use mathlib.Core.Path.{◌≡◌, refl, sym}
+use mathlib.Core.Path.{◌≡◌, refl, sym, ap}
 use mathlib.Core.Bool.{Bool, true, false, cond, false≢true}
 use native.Mathlib.Omega.{arith}
 use lib.Dec.{eqb}
 use borrow.Author.Tests.{eq-eqb, eqb-true}
-use Rattle.model.specs.Answers.{accept, Verdict, accepted, and_then, output_row}
+use Rattle.model.specs.Answers.{accept, Verdict, accepted, and_then, output_row, answered}
 use Rattle.model.specs.declared.Refusal.{Refusal}
 use Rattle.model.specs.declared.Refusal.TheVariants.{Output}
 
-pub never_both : {x : Refusal} → accept ≡ Err x → ⊥
+pub never_both : {A E : Type 0} {a : A} {x : E} → ◌≡◌ {A = Result A E} (Ok a) (Err x) → ⊥
 never_both e = let z : ◌≡◌ {A = ℕ} 0 1 = cc in omega arith
+
+-- two values that are answered are one
+pub ok-same : {A E : Type 0} {a b : A} → ◌≡◌ {A = Result A E} (Ok a) (Ok b) → a ≡ b
+ok-same {A} {E} {a} {b} e = ap (λ (r : Result A E). result_unwrap_or r a) e
+
+-- a value is answered where the verdict accepts
+pub answered-ok : {A : Type 0} (v : Verdict) (a b : A) → answered v a ≡ Ok b → (v ≡ accept) × (a ≡ b)
+answered-ok (Ok u) a b e = (refl, ok-same e)
+answered-ok (Err r) a b e = absurd (never_both (sym e))
+
+-- and the verdict's refusal otherwise
+pub answered-err : {A : Type 0} (v : Verdict) (a : A) (x : Refusal) → answered v a ≡ Err x → v ≡ Err x
+answered-err (Ok u) a x e = absurd (never_both e)
+answered-err {A} (Err r) a x e = let P : Result A Refusal → Verdict = λ r. elim r [ Ok a ↦ accept | Err y ↦ Err y ] in ap P e
 
 pub is-accepted : (v : Verdict) → accepted v ≡ true → v ≡ accept
 is-accepted (Ok u) e = refl

@@ -1,6 +1,6 @@
 -- Document 01's cases marked P as document 02 has changed them, two more of its rules on small tasks, document 02's first five items and
 -- its items 9, 10 and 14, and document 004's appendix A. A case is a claim on a task; a claim about lists is one about every list. Assumes nothing.
-use Rattle.std.specs.Prelude.{ℕ, ◌-◌, ◌<◌, ◌≡◌, true, false, ◌&&◌, List, [], ◌∷◌, ◌++◌, map, eqb, length, replicate, Err, None, Option, Some}
+use Rattle.std.specs.Prelude.{ℕ, ◌-◌, ◌<◌, ◌≡◌, true, false, ◌&&◌, List, [], ◌∷◌, ◌++◌, map, eqb, length, replicate, Err, None, Option, Some, Result, Ok}
 use Rattle.model.specs.Sets.{Lines, listed}
 use Rattle.model.specs.Task.{Block, Preempter, Task, block_count, with_preempters}
 use Rattle.model.specs.Lines.{on_line, next_read, reads_looked_at, as_next, useful, evicted}
@@ -36,7 +36,7 @@ abbrev pub Are : Lines → List ℕ → Type 0
 Are s ds = (c : ℕ) → c < 512 → s c ≡ listed ds c
 
 -- a refusal by this number at this place
-abbrev pub RefusedBy : ℕ → ℕ → Verdict → Type 0
+abbrev pub RefusedBy : {A : Type 0} → ℕ → ℕ → Result A Refusal → Type 0
 RefusedBy n i v = (r : Refusal) × (v ≡ Err r) × (number r ≡ n) × (place r ≡ i)
 
 abbrev pub CaseHolds : Case → Type 0
@@ -47,9 +47,9 @@ CaseHolds (loaded_are t a b ds) = Are (loaded t a b) ds
 CaseHolds (length_is t a b l) = region_length t a b ≡ l
 CaseHolds (best_are t p pss) =
     ((ps : List ℕ) → among ps pss ≡ true → BestList t ps × (cost t ps ≡ p)) × ((ps : List ℕ) → BestList t ps → among ps pss ≡ true)
-CaseHolds (first_is t ps) = FirstBest t ps × ((v : Verdict) (p : Plan) → Planned t v p → (v ≡ accept) × (chosen p ≡ ps))
+CaseHolds (first_is t ps) = FirstBest t ps × ((r : Result Plan Refusal) → Planned t r → (p : Plan) × (r ≡ Ok p) × (chosen p ≡ ps))
 CaseHolds (fitting_are t pss) = (ps : List ℕ) → (well_formed (block_count t) ps && fits t ps) ≡ among ps pss
-CaseHolds (none_fits t n i) = NoPlacementFits t × ((v : Verdict) (p : Plan) → Planned t v p → RefusedBy n i v)
+CaseHolds (none_fits t n i) = NoPlacementFits t × ((r : Result Plan Refusal) → Planned t r → RefusedBy n i r)
 CaseHolds (priced t ps l p) = (pricing t ps ≡ accept) × (lines t ps ≡ l) × (cost t ps ≡ p)
 CaseHolds (refused t ps n i) = RefusedBy n i (pricing t ps)
 CaseHolds (line_is t m c) = (d : ℕ) → on_line t d m ≡ eqb d c

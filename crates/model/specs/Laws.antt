@@ -1,6 +1,7 @@
 -- What documents 01 and 02 say of the definitions and no contract states. Each is proved in proofs/ under its name in small letters.
 -- Assumes nothing.
-use Rattle.std.specs.Prelude.{ℕ, suc, ◌+◌, ◌-◌, ◌*◌, ◌%◌, ◌≤◌, ◌<◌, min, ◌≡◌, Bool, true, false, not, cond, ◌⊎◌, eqb, leb, length, get_or, take, drop, Some}
+use Rattle.model.specs.declared.Refusal.{Refusal}
+use Rattle.std.specs.Prelude.{ℕ, suc, ◌+◌, ◌-◌, ◌*◌, ◌%◌, ◌≤◌, ◌<◌, min, ◌≡◌, Bool, true, false, not, cond, ◌⊎◌, eqb, leb, length, get_or, take, drop, Some, Result}
 use mathlib.Core.List.{List, [], ◌∷◌, Memᴰ}
 use Rattle.std.specs.Int.Count.{ones}
 use Rattle.model.specs.Sets.{Lines, size, words, in_words}
@@ -121,7 +122,7 @@ OneFirst =
 
 -- and one answer of planning at most is right for a task, verdict and plan
 abbrev pub OnePlan : Type 0
-OnePlan = (t : Task) (v w : Verdict) (p q : Plan) → Planned t v p → Planned t w q → (v ≡ w) × (p ≡ q)
+OnePlan = (t : Task) (r s : Result Plan Refusal) → Planned t r → Planned t s → r ≡ s
 
 -- a replay with points misses once more for each of the list's lines, within the limit or not (document 02, item 4)
 abbrev pub AddedMisses : Type 0

@@ -20,7 +20,7 @@ use Rattle.taskfile.specs.File.{verdict, IsAccepted, task_of}
 use Rattle.taskfile.proofs.Accepted as files
 use Rattle.planner.specs.Calls.{price_verdict, price_lines, price_charges, plan_charges}
 use Rattle.planner.specs.Statements.{PriceAddsUp, PlanAddsUp, NothingFrom}
-use Rattle.planner.proofs.Planned.{plan-accepted, plan-refused}
+use Rattle.planner.proofs.Planned.{plan-accepted}
 
 few-preempters : (file : List ℕ) → IsAccepted file → preempter_count (task_of file) ≤ 32
 few-preempters file e = omega (arith, files.preempter-count file, (files.accepted file e).preempters-most)
@@ -43,13 +43,9 @@ price-adds-up file ps = go (price_verdict file ps) refl
 
 pub plan-adds-up : PlanAddsUp
 unfolding plan_charges plan_for
-plan-adds-up file v p a = go v refl
-  where
-    go : (u : Verdict) → v ≡ u → sum (on_accepted u (charges (task_of file) (chosen p)) no_charges) ≡ p.lines
-    go (Ok u) e =
-        let accepted = plan-accepted file v p a e in
-        charges-add-up (task_of file) (few-preempters file accepted) (chosen p) ∙ sym (ap (λ (q : Plan). q.lines) ((a.planned accepted).follows e))
-    go (Err x) e = none-add-up ∙ sym (ap (λ (q : Plan). q.lines) (plan-refused file v p a x e))
+plan-adds-up file p a =
+    let accepted = plan-accepted file p a in
+    charges-add-up (task_of file) (few-preempters file accepted) (chosen p) ∙ sym (ap (λ (q : Plan). q.lines) ((a.planned accepted).follows p refl))
 
 none_from : (i : ℕ) → get_or no_charges i 0 ≡ 0
 none_from i = by_cases (dec_lt i 32) (λ h. get_or-replicate {A = ℕ} 32 i 0 0 h) (λ h. get_or-eq_default no_charges 0 {n = i} (omega arith))
@@ -62,5 +58,5 @@ pub nothing-from : NothingFrom
 unfolding price_charges plan_charges
 nothing-from file i h = (
   λ ps. nothing-kept (price_verdict file ps) (charges (task_of file) ps) i (no-charge-from (task_of file) ps i h),
-  λ v p. nothing-kept v (charges (task_of file) (chosen p)) i (no-charge-from (task_of file) (chosen p) i h),
+  λ p. no-charge-from (task_of file) (chosen p) i h,
 )

@@ -8,11 +8,8 @@ use Rattle.taskfile.specs.File.{verdict, task_of}
 use Rattle.planner.specs.Statements.{OneAnswer}
 
 pub one_answer : OneAnswer
-one_answer file v w p q a b = go (verdict file) refl
+one_answer file r s a b = go (verdict file) refl
   where
-    go : (u : Verdict) → verdict file ≡ u → (v ≡ w) × (p ≡ q)
-    go (Ok u) e = one-plan (task_of file) v w p q (a.planned e) (b.planned e)
-    go (Err x) e =
-        let one = a.refused x e in
-        let other = b.refused x e in
-        (one.0 ∙ sym other.0, one.1 ∙ sym other.1)
+    go : (u : Verdict) → verdict file ≡ u → r ≡ s
+    go (Ok u) e = one-plan (task_of file) r s (a.planned e) (b.planned e)
+    go (Err x) e = a.refused x e ∙ sym (b.refused x e)

@@ -1,18 +1,19 @@
 -- What each public call answers to any bytes and numbers (document 01, "Stretches and price" and "Numbers given to the build"): refusals 1 to
 -- 5 of the file first, then 7, then 6 or 8. Assumes nothing.
-use Rattle.std.specs.Prelude.{ℕ, ◌≡◌, false, cond, ◌&&◌, List, leb, ltb, Err, None, Option}
+use Rattle.std.specs.Prelude.{Ok, ℕ, ◌≡◌, false, cond, ◌&&◌, List, leb, ltb, Err, None, Option, Result}
 use Rattle.model.specs.Sets.{words}
 use Rattle.model.specs.Task.{block_count}
 use Rattle.model.specs.Lines.{next_read, reads_looked_at, as_next, useful}
 use Rattle.model.specs.Regions.{loaded, region_length, lines, cost}
 use Rattle.model.specs.Charges.{charges, no_charges}
 use Rattle.model.specs.Answers.{Input, accept, Verdict, on_accepted, and_then, whose, place_of, pricing}
-use Rattle.model.specs.Planning.{chosen, plan_for, no_plan, Planned}
+use Rattle.model.specs.Planning.{chosen, plan_for, Planned}
 use Rattle.model.specs.declared.Refusal.{Refusal}
 use Rattle.model.specs.declared.Refusal.TheVariants.{Argument}
 use Rattle.model.specs.declared.Plan.{Plan}
 use Rattle.taskfile.specs.File.{IsAccepted, verdict, task_of}
 use Rattle.planblock.specs.Plans.{read_verdict, plan_of}
+use Rattle.planner.specs.declared.ChargedPlan.{ChargedPlan}
 
 -- the words of a set that a refusal carries
 abbrev pub no_words : List ℕ
@@ -73,13 +74,18 @@ block_place file block = place_of (block_input file block) (block_verdict file b
 
 -- the plan of its points, with the file's N and id
 unfoldable pub block_plan : List ℕ → List ℕ → Plan
-block_plan file block = on_accepted (block_verdict file block) (plan_for (task_of file) (chosen (plan_of block))) no_plan
+block_plan file block = plan_for (task_of file) (chosen (plan_of block))
 
 -- planning: the file's refusal, or what planning answers for its task
-pub record PlanAnswer (file : List ℕ) (v : Verdict) (p : Plan) : Type 0 where
-  pub refused : (x : Refusal) → verdict file ≡ Err x → (v ≡ Err x) × (p ≡ no_plan)
-  pub planned : IsAccepted file → Planned (task_of file) v p
+pub record PlanAnswer (file : List ℕ) (r : Result Plan Refusal) : Type 0 where
+  pub refused : (x : Refusal) → verdict file ≡ Err x → r ≡ Err x
+  pub planned : IsAccepted file → Planned (task_of file) r
+
+-- the plan of an answer with charges
+abbrev pub plan_in : Result ChargedPlan Refusal → Result Plan Refusal
+plan_in (Ok c) = Ok c.plan
+plan_in (Err x) = Err x
 
 -- and the charges: those of the list that the plan holds
-unfoldable pub plan_charges : List ℕ → Verdict → Plan → List ℕ
-plan_charges file v p = on_accepted v (charges (task_of file) (chosen p)) no_charges
+unfoldable pub plan_charges : List ℕ → Plan → List ℕ
+plan_charges file p = charges (task_of file) (chosen p)

@@ -1,19 +1,19 @@
 -- What is shown of the calls beside the contracts (document 02, items 1, every host makes the same plan, 10, reloads charged to preempters, and 14,
 -- that what a switch adds still fits).
 -- Assumes nothing.
-use Rattle.std.specs.Prelude.{ℕ, ◌^◌, ◌≤◌, ◌<◌, ◌≡◌, List, get_or, true}
+use Rattle.model.specs.declared.Refusal.{Refusal}
+use Rattle.std.specs.Prelude.{ℕ, ◌^◌, ◌≤◌, ◌<◌, ◌≡◌, List, get_or, true, Result, Ok}
 use Rattle.model.specs.Task.{block_count, preempter_count}
 use Rattle.model.specs.Lists.{well_formed}
 use Rattle.model.specs.Regions.{region_length, cost}
 use Rattle.model.specs.Charges.{sum}
 use Rattle.model.specs.declared.Plan.{Plan}
-use Rattle.model.specs.Answers.{Verdict}
 use Rattle.taskfile.specs.File.{IsAccepted, task_of}
 use Rattle.planner.specs.Calls.{price_lines, price_charges, PlanAnswer, plan_charges}
 
--- one answer of planning at most is right for a file, verdict and plan
+-- one answer of planning at most is right for a file, plan or refusal
 abbrev pub OneAnswer : Type 0
-OneAnswer = (file : List ℕ) (v w : Verdict) (p q : Plan) → PlanAnswer file v p → PlanAnswer file w q → (v ≡ w) × (p ≡ q)
+OneAnswer = (file : List ℕ) (r s : Result Plan Refusal) → PlanAnswer file r → PlanAnswer file s → r ≡ s
 
 -- the charges of a list add up to its lines, for every file and list; a refusal has none of either
 abbrev pub PriceAddsUp : Type 0
@@ -21,13 +21,13 @@ PriceAddsUp = (file ps : List ℕ) → sum (price_charges file ps) ≡ price_lin
 
 -- and those of a plan to the plan's lines
 abbrev pub PlanAddsUp : Type 0
-PlanAddsUp = (file : List ℕ) (v : Verdict) (p : Plan) → PlanAnswer file v p → sum (plan_charges file v p) ≡ p.lines
+PlanAddsUp = (file : List ℕ) (p : Plan) → PlanAnswer file (Ok p) → sum (plan_charges file p) ≡ p.lines
 
 -- from index M on nothing is charged, by either call
 abbrev pub NothingFrom : Type 0
 NothingFrom =
     (file : List ℕ) (i : ℕ) → preempter_count (task_of file) ≤ i
-    → ((ps : List ℕ) → get_or (price_charges file ps) i 0 ≡ 0) × ((v : Verdict) (p : Plan) → get_or (plan_charges file v p) i 0 ≡ 0)
+    → ((ps : List ℕ) → get_or (price_charges file ps) i 0 ≡ 0) × ((p : Plan) → get_or (plan_charges file p) i 0 ≡ 0)
 
 -- a list's cost fits 47 bits, so it fits a plan's field
 abbrev pub CostFits : Type 0

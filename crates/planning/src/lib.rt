@@ -3,41 +3,27 @@
 
 ghost use Rattle.std.specs.Prelude.{◌≡◌, drop, replicate, ◌-◌, ◌<◌, ◌≤◌};
 ghost use Rattle.model.specs.Task.{block_count};
-ghost use Rattle.model.specs.Planning.{chosen, no_plan, Planned};
+ghost use Rattle.model.specs.Planning.{chosen, Planned};
 ghost use Rattle.taskfile.specs.File.{IsAccepted, task_of};
 ghost use Rattle.reuse.specs.Counts.{NewLines};
 ghost use Rattle.planning.specs.Choices.{ChoiceAt, Choices};
-ghost use Rattle.planning.specs.Plans.{PointsPlanned, plan_with};
+ghost use Rattle.planning.specs.Plans.{points_planned, plan_with};
 
 use model::{Plan, Refusal};
 use placement::Choice;
 use pricing::Price;
 use regions::CountedRegion;
 
-// A plan of a file, or the refusal.
-#[derive(Clone, Copy)]
-pub struct FilePlan {
-    pub verdict: Result<(), Refusal>,
-    pub plan: Plan,
-}
-
 // The plan of the points that a plan holds.
-pub fn price_points(file: &[u8], first: Plan) -> FilePlan
+pub fn price_points(file: &[u8], first: Plan) -> Result<Plan, Refusal>
     requires accepted { IsAccepted file.now }
     requires count_bound { (first.count ≤ 63) × (drop first.count first.points ≡ replicate (64 - first.count) 0) }
-    ensures { PointsPlanned (task_of file.now) (chosen first) result.verdict result.plan }
+    ensures { result ≡ points_planned (task_of file.now) (chosen first) }
 {
     let points = first.points;
     let count = first.count as usize;
-    let price = pricing::price_of(file, &points[..count]);
-    let verdict = price.verdict;
-    let Ok(()) = verdict else {
-        return refused_plan(verdict);
-    };
-    FilePlan {
-        verdict,
-        plan: plan_of(file, count, points, price),
-    }
+    let price = pricing::price_of(file, &points[..count])?;
+    Ok(plan_of(file, count, points, price))
 }
 
 // The plan of the first points, with their price; N and id are the file's.
@@ -60,9 +46,9 @@ fn plan_of(file: &[u8], count: usize, points: [u16; 64], price: Price) -> Plan
 }
 
 // The plan of the first of the fitting lists that cost least.
-pub fn least_plan(file: &[u8]) -> FilePlan
+pub fn least_plan(file: &[u8]) -> Result<Plan, Refusal>
     requires { IsAccepted file.now }
-    ensures { Planned (task_of file.now) result.verdict result.plan }
+    ensures { Planned (task_of file.now) result }
 {
     let mut counts = [0u8; 4096];
     reuse::count_new_lines(file, &mut counts);
@@ -70,16 +56,14 @@ pub fn least_plan(file: &[u8]) -> FilePlan
 }
 
 // The same, from the counts of new lines: the choice at each edge, from the last to the first.
-fn plan_by_counts(file: &[u8], counts: &[u8; 4096]) -> FilePlan
+fn plan_by_counts(file: &[u8], counts: &[u8; 4096]) -> Result<Plan, Refusal>
     requires { NewLines file.now counts.now }
-    ensures { Planned (task_of file.now) result.verdict result.plan }
+    ensures { Planned (task_of file.now) result }
 {
     let mut costs = [0u64; 65];
     let mut nexts = [0usize; 65];
     let mut lines = [0u64; 65];
-    let mut a = taskfile::block_count(file);
-    while 0 < a {
-        a -= 1;
+    for a in (0..taskfile::block_count(file)).rev() {
         let choice = choose(file, counts, &costs, &lines, a);
         costs[a] = choice.cost;
         nexts[a] = choice.next;
@@ -122,36 +106,19 @@ fn choose(
 }
 
 // The plan of the list that the choices lead along.
-fn plan_along(file: &[u8], costs: &[u64; 65], nexts: &[usize; 65], lines: &[u64; 65]) -> FilePlan
+fn plan_along(file: &[u8], costs: &[u64; 65], nexts: &[usize; 65], lines: &[u64; 65]) -> Result<Plan, Refusal>
     requires { IsAccepted file.now × Choices (task_of file.now) costs.now nexts.now lines.now }
-    ensures { Planned (task_of file.now) result.verdict result.plan }
+    ensures { Planned (task_of file.now) result }
 {
     let cost = costs[0];
     if cost == placement::NONE {
-        return refused_plan(Err(Refusal::NoPlacement));
+        return Err(Refusal::NoPlacement);
     }
     let list = placement::follow(nexts, taskfile::block_count(file));
-    let count = list.count;
-    let points = list.points;
-    let verdict = Ok(());
-    let sum = lines[0];
     let price = Price {
-        verdict,
-        lines: sum,
+        lines: lines[0],
         cost,
     };
-    FilePlan {
-        verdict,
-        plan: plan_of(file, count, points, price),
-    }
-}
-
-// What is answered where no plan is.
-pub fn refused_plan(verdict: Result<(), Refusal>) -> FilePlan
-    ensures { (result.verdict ≡ verdict) × (result.plan ≡ no_plan) }
-{
-    FilePlan {
-        verdict,
-        plan: answers::no_plan(),
-    }
+    let points = list.points;
+    Ok(plan_of(file, list.count, points, price))
 }

@@ -25,8 +25,7 @@ followed c = rw c.block_count.ensures.0 at c.follow-list.ensures
 pub returns-then-cost : goal.returns-then-cost
 returns-then-cost c =
     let file = c.args.file.now in
-    rw (c.refused_plan.ensures.0, c.refused_plan.ensures.1)
-    (none-planned (task_of file) (positive (goal.at.returns-then-cost c).Start) (most (goal.at.returns-then-cost c).Start) c.requires.1 c.if-cost.true)
+    none-planned (task_of file) (positive (goal.at.returns-then-cost c).Start) (most (goal.at.returns-then-cost c).Start) c.requires.1 c.if-cost.true
 
 pub follow-list-requires : goal.follow-list-requires
 follow-list-requires c =

@@ -9,6 +9,3 @@ abbrev pub invariant-loop-a : goal.invariant-loop-a
 invariant-loop-a l =
     let t = task_of l.file in
     Chosen (region_fits t) (region_cost t) (region_lines t) (block_count t) l.a l.costs l.nexts l.lines
-
-abbrev pub decreases-loop-a : goal.decreases-loop-a
-decreases-loop-a l = l.a

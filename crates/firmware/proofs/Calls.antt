@@ -1,6 +1,6 @@
 -- What the planner answers can be returned and stored: its places are at most 97, and an accepted plan fits a block.
 -- Assumes nothing.
-use Rattle.std.specs.Prelude.{Err, Ok}
+use Rattle.std.specs.Prelude.{Err, Ok, Result}
 use Prim.Native.Nat.{ℕ, ◌+◌, ◌≤◌}
 use mathlib.Core.Path.{◌≡◌, refl, sym, ap, ◌∙◌}
 use mathlib.Core.Bool.{true}
@@ -11,12 +11,12 @@ use lib.ListN.{length, length-take}
 use Rattle.model.specs.Task.{block_count}
 use Rattle.model.specs.Lists.{well_formed}
 use Rattle.model.specs.Regions.{NoPlacementFits}
-use Rattle.model.specs.Answers.{accept, Verdict, place, verdict_place, on_accepted, and_then, output_row, pricing, most_blocks}
-use Rattle.model.specs.Planning.{chosen, plan_for, no_plan, Planned}
+use Rattle.model.specs.Answers.{accept, Verdict, place, verdict_place, and_then, output_row, pricing, most_blocks}
+use Rattle.model.specs.Planning.{chosen, plan_for, Planned}
 use Rattle.model.specs.declared.Plan.{Plan}
 use Rattle.model.specs.declared.Refusal.{Refusal}
 use Rattle.model.specs.declared.Refusal.TheVariants.{NoPlacement, Output}
-use Rattle.model.proofs.Verdicts.{never_both, both-accepted, output-refuses}
+use Rattle.model.proofs.Verdicts.{never_both, err-same, both-accepted, output-refuses}
 use Rattle.model.proofs.Regions.{accepted-well-formed}
 use Rattle.model.proofs.Places.{then-most, of-most, pricing-most}
 use Rattle.taskfile.specs.File.{verdict, task_of}
@@ -28,6 +28,7 @@ use Rattle.planvalue.proofs.Lists.{list-stores}
 use Rattle.planblock.specs.Plans.{plan_bytes, read_verdict, plan_of}
 use Rattle.planblock.proofs.Verdicts.{read-place}
 use Rattle.planblock.proofs.Roundtrip.{store-back}
+use Rattle.planner.proofs.Planned.{plan-accepted}
 use Rattle.planner.specs.Calls.{PlanAnswer, block_verdict, block_input, block_place, block_plan}
 use Rattle.firmware.specs.Calls.{returned, PlanCall, StoredBest}
 
@@ -40,23 +41,22 @@ stores file ps e w =
 
 -- planning
 
-pub plan-most : (file : List ℕ) (v : Verdict) (p : Plan) → PlanAnswer file v p → verdict_place v ≤ most_blocks
-plan-most file v p answer = go (verdict file) refl
+pub plan-most : (file : List ℕ) (x : Refusal) → PlanAnswer file (Err x) → place x ≤ most_blocks
+plan-most file x answer = go (verdict file) refl
   where
-    none : (v ≡ accept) ⊎ (v ≡ Err NoPlacement) → verdict_place v ≤ most_blocks
-    none (inl e) = rw e (omega arith)
-    none (inr e) = rw e (omega arith)
+    none : ((p : Plan) × (◌≡◌ {A = Result Plan Refusal} (Err x) (Ok p))) ⊎ (◌≡◌ {A = Result Plan Refusal} (Err x) (Err NoPlacement)) → place x ≤ most_blocks
+    none (inl (p, e)) = absurd (never_both (sym e))
+    none (inr e) = rw (err-same e) (omega arith)
 
-    go : (w : Verdict) → verdict file ≡ w → verdict_place v ≤ most_blocks
+    go : (w : Verdict) → verdict file ≡ w → place x ≤ most_blocks
     go (Ok u) e = none (answer.planned e).answers
-    go (Err x) e = rw (answer.refused x e).0 (rw e at (verdict-most file))
+    go (Err y) e = rw (err-same (answer.refused y e)) (rw e at (verdict-most file))
 
-pub plan-stores : (file : List ℕ) (v : Verdict) (p : Plan) → PlanAnswer file v p → v ≡ accept → plan_verdict p ≡ accept
-plan-stores file v p answer a = go (verdict file) refl
-  where
-    go : (w : Verdict) → verdict file ≡ w → plan_verdict p ≡ accept
-    go (Ok u) e = rw ((answer.planned e).follows a) (stores file (chosen p) e ((answer.planned e).best a).least-cost.well-formed)
-    go (Err x) e = absurd (never_both (sym a ∙ (answer.refused x e).0))
+pub plan-stores : (file : List ℕ) (p : Plan) → PlanAnswer file (Ok p) → plan_verdict p ≡ accept
+plan-stores file p answer =
+    let e = plan-accepted file p answer in
+    let known = answer.planned e in
+    rw (known.follows p refl) (stores file (chosen p) e (known.best p refl).least-cost.well-formed)
 
 -- a block of another length is refused by 9 at 0
 pub plan-output : (file block : List ℕ) (x : Refusal) (r : ℕ) → output_row 512 (length block) ≡ Err x → r ≡ returned (Err x) 0
@@ -69,26 +69,28 @@ plan-output file block x r row e =
       planned = λ q. absurd (never_both (sym (rw row at q)));
     }
 
--- what `leave` does with the answer is what the call promises
-pub plan-call : (file block : List ℕ) (v : Verdict) (p : Plan) (r : ℕ) (left : List ℕ) → output_row 512 (length block) ≡ accept → PlanAnswer file v p
-    → r ≡ returned v (verdict_place v) → left ≡ on_accepted v (plan_bytes p) block → PlanCall file block r left
-plan-call file block v p r left long answer e f =
-    record {
-      refused = λ x q. refuses x (answer.refused x (rw long at q)).0;
-      planned = λ q. let known = answer.planned (rw long at q) in cases known known.answers;
-    }
-  where
-    refuses : (x : Refusal) → v ≡ Err x → (r ≡ returned (Err x) (place x)) × (left ≡ block)
-    refuses x a = (e ∙ rw a refl, f ∙ rw a refl)
+-- a refusal of planning, and a plan that is left
+module _ (file block : List ℕ) (long : output_row 512 (length block) ≡ accept) where
+  pub plan-refuses : (x : Refusal) → PlanAnswer file (Err x) → PlanCall file block (returned (Err x) (place x)) block
+  plan-refuses x answer =
+      record {
+        refused = λ y q. let same = err-same (answer.refused y (rw long at q)) in rw same (refl, refl);
+        planned = λ q. let known = answer.planned (rw long at q) in none known known.answers;
+      }
+    where
+      none : Planned (task_of file) (Err x) → ((p : Plan) × (◌≡◌ {A = Result Plan Refusal} (Err x) (Ok p))) ⊎ (◌≡◌ {A = Result Plan Refusal} (Err x) (Err NoPlacement))
+          → (NoPlacementFits (task_of file) × (returned (Err x) (place x) ≡ returned (Err NoPlacement) 0) × (block ≡ block)) ⊎ (StoredBest (task_of file) block × (returned (Err x) (place x) ≡ 0))
+      none known (inl (p, e)) = absurd (never_both (sym e))
+      none known (inr e) = inl (known.none-fits e, rw (err-same e) refl, refl)
 
-    cases : Planned (task_of file) v p → (v ≡ accept) ⊎ (v ≡ Err NoPlacement)
-        → (NoPlacementFits (task_of file) × (r ≡ returned (Err NoPlacement) 0) × (left ≡ block)) ⊎ (StoredBest (task_of file) left × (r ≡ 0))
-    cases known (inl a) =
-        inr (
-          record { points = chosen p; best = known.best a; bytes = f ∙ rw a (ap plan_bytes (known.follows a)) },
-          e ∙ rw a refl,
-        )
-    cases known (inr a) = inl (known.none-fits a, (refuses NoPlacement a).0, (refuses NoPlacement a).1)
+  pub plan-leaves : (p : Plan) (left : List ℕ) → PlanAnswer file (Ok p) → left ≡ plan_bytes p → PlanCall file block 0 left
+  plan-leaves p left answer f =
+      record {
+        refused = λ y q. absurd (never_both (answer.refused y (rw long at q)));
+        planned = λ q.
+            let known = answer.planned (rw long at q) in
+            inr (record { points = chosen p; best = known.best p refl; bytes = f ∙ ap plan_bytes (known.follows p refl) }, refl);
+      }
 
 -- pricing
 
@@ -119,15 +121,9 @@ module _ (file points : List ℕ) where
   unfolding block_plan
   block-stores e =
       let all = parts e in
-      rw e (stores file (chosen (plan_of points)) all.0 (accepted-well-formed (task_of file) (chosen (plan_of points)) all.2))
+      stores file (chosen (plan_of points)) all.0 (accepted-well-formed (task_of file) (chosen (plan_of points)) all.2)
 
-  -- the plan that is left is that of the points
-  pub block-left : (block : List ℕ) → on_accepted (block_verdict file points) (plan_bytes (block_plan file points)) block
-      ≡ on_accepted (block_verdict file points) (plan_bytes (plan_for (task_of file) (chosen (plan_of points)))) block
-  unfolding block_plan
-  block-left block = go (block_verdict file points)
-    where
-      go : (v : Verdict) → on_accepted v (plan_bytes (on_accepted v (plan_for (task_of file) (chosen (plan_of points))) no_plan)) block
-          ≡ on_accepted v (plan_bytes (plan_for (task_of file) (chosen (plan_of points)))) block
-      go (Ok u) = refl
-      go (Err x) = refl
+  -- an accepted answer has place 0
+  pub block-free : block_verdict file points ≡ accept → block_place file points ≡ 0
+  unfolding block_place
+  block-free e = let all = parts e in rw (e, all.0, all.1) refl

@@ -19,6 +19,10 @@ never_both e = let z : ◌≡◌ {A = ℕ} 0 1 = cc in omega arith
 pub ok-same : {A E : Type 0} {a b : A} → ◌≡◌ {A = Result A E} (Ok a) (Ok b) → a ≡ b
 ok-same {A} {E} {a} {b} e = ap (λ (r : Result A E). result_unwrap_or r a) e
 
+-- and two refusals
+pub err-same : {A E : Type 0} {x y : E} → ◌≡◌ {A = Result A E} (Err x) (Err y) → x ≡ y
+err-same {A} {E} {x} {y} e = let P : Result A E → E = λ r. elim r [ Ok a ↦ x | Err z ↦ z ] in ap P e
+
 -- a value is answered where the verdict accepts
 pub answered-ok : {A : Type 0} (v : Verdict) (a b : A) → answered v a ≡ Ok b → (v ≡ accept) × (a ≡ b)
 answered-ok (Ok u) a b e = (refl, ok-same e)
@@ -27,7 +31,7 @@ answered-ok (Err r) a b e = absurd (never_both (sym e))
 -- and the verdict's refusal otherwise
 pub answered-err : {A : Type 0} (v : Verdict) (a : A) (x : Refusal) → answered v a ≡ Err x → v ≡ Err x
 answered-err (Ok u) a x e = absurd (never_both e)
-answered-err {A} (Err r) a x e = let P : Result A Refusal → Verdict = λ r. elim r [ Ok a ↦ accept | Err y ↦ Err y ] in ap P e
+answered-err (Err r) a x e = ap Err (err-same e)
 
 pub is-accepted : (v : Verdict) → accepted v ≡ true → v ≡ accept
 is-accepted (Ok u) e = refl

@@ -23,45 +23,20 @@ pub fn mixed(state: u32, byte: u8) -> u32
 fn mixed_all(from: u32, bytes: &[u8]) -> u32
     ensures { result ≡ hash_from from bytes.now }
 {
-    let mut state = from;
-    let mut i = 0;
-    while i < bytes.len() {
-        state = mixed(state, bytes[i]);
-        i += 1;
-    }
-    state
+    bytes.iter().fold(from, |state, byte| mixed(state, *byte))
 }
 
-// The state after eight zeros: 1566662433 are the low 32 bits of 16777619^8.
-fn mixed_zeros(state: u32) -> u32
-    ensures { result ≡ hash_from state (replicate 8 0) }
-{
-    wrapping_mul(state, 1566662433)
-}
+// The low 32 bits of 16777619^8 and of 16777619^16.
+const EIGHT_ZEROS: u32 = 1566662433;
 
-// The state after sixteen zeros: 878412353 are the low 32 bits of 16777619^16.
-fn sixteen_zeros(state: u32) -> u32
-    ensures { result ≡ hash_from state (replicate 16 0) }
-{
-    wrapping_mul(state, 878412353)
-}
+const SIXTEEN_ZEROS: u32 = 878412353;
 
-// The number that two bytes make.
-fn two_at(bytes: &[u8], at: usize) -> u64
-    requires { at + 2 ≤ length bytes.now }
-    ensures { ZeroIf 2 bytes.now at result × (result < 65536) }
+// The state after N zeros, which are one product with that power of 16777619.
+fn mixed_zeros<const N: usize>(state: u32, power: u32) -> u32
+    requires { power ≡ 16777619 ^ N % 2 ^ 32 }
+    ensures { result ≡ hash_from state (replicate N 0) }
 {
-    let low = bytes[at] as u64;
-    let high = bytes[at + 1] as u64;
-    low + 256 * high
-}
-
-// The number that four bytes make.
-fn four_at(bytes: &[u8], at: usize) -> u64
-    requires { at + 4 ≤ length bytes.now }
-    ensures { ZeroIf 4 bytes.now at result × (result < 4294967296) }
-{
-    two_at(bytes, at) + 65536 * two_at(bytes, at + 2)
+    wrapping_mul(state, power)
 }
 
 // The number that eight bytes make. It is a function of its own for the compiler, which makes one load of it.
@@ -69,7 +44,16 @@ fn eight_at(bytes: &[u8], at: usize) -> u64
     requires { at + 8 ≤ length bytes.now }
     ensures { ZeroIf 8 bytes.now at result }
 {
-    four_at(bytes, at) + 4294967296 * four_at(bytes, at + 4)
+    u64::from_le_bytes([
+        bytes[at],
+        bytes[at + 1],
+        bytes[at + 2],
+        bytes[at + 3],
+        bytes[at + 4],
+        bytes[at + 5],
+        bytes[at + 6],
+        bytes[at + 7],
+    ])
 }
 
 // Whether eight bytes are zeros: the number that they make is.
@@ -86,7 +70,7 @@ fn mixed_word(state: u32, word: &[u8]) -> u32
     ensures { result ≡ hash_from state word.now }
 {
     if is_zero_word(word) {
-        return mixed_zeros(state);
+        return mixed_zeros::<8>(state, EIGHT_ZEROS);
     }
     mixed_all(state, word)
 }
@@ -117,7 +101,7 @@ fn past_pairs(from: Part, bytes: &[u8]) -> Part
         if pair_at(bytes, at) != 0 {
             return Part { state, at };
         }
-        state = sixteen_zeros(state);
+        state = mixed_zeros::<16>(state, SIXTEEN_ZEROS);
         at += 16;
     }
     Part { state, at }
@@ -196,10 +180,10 @@ fn four_zeros(from: FourHashes) -> FourHashes
     ensures { HashedOn from (replicate 8 0) (replicate 8 0) (replicate 8 0) (replicate 8 0) result }
 {
     FourHashes {
-        a: mixed_zeros(from.a),
-        b: mixed_zeros(from.b),
-        c: mixed_zeros(from.c),
-        d: mixed_zeros(from.d),
+        a: mixed_zeros::<8>(from.a, EIGHT_ZEROS),
+        b: mixed_zeros::<8>(from.b, EIGHT_ZEROS),
+        c: mixed_zeros::<8>(from.c, EIGHT_ZEROS),
+        d: mixed_zeros::<8>(from.d, EIGHT_ZEROS),
     }
 }
 

@@ -8,8 +8,6 @@ ghost use Rattle.block.specs.Bytes.{le, les, field, zeros_between};
 ghost use Rattle.block.specs.Blocks.{numbered, sealed, sealed_blocks, checksum_right, body_right, framed};
 ghost use Rattle.block.specs.Steps.{HashesOf, SealedSoFar};
 
-use fnv::FourHashes;
-
 // The number in two bytes.
 pub fn u16_at(bytes: &[u8], at: usize) -> u16
     requires { at + 2 ≤ length bytes.now }
@@ -97,10 +95,10 @@ pub fn four_checksums_right(a: &[u8], b: &[u8], c: &[u8], d: &[u8]) -> bool
     ensures { result ≡ (checksum_right a.now && checksum_right b.now && checksum_right c.now && checksum_right d.now) }
 {
     let hashes = fnv::hash_four(&a[..508], &b[..508], &c[..508], &d[..508]);
-    checksum_is(a, hashes.a)
-        && checksum_is(b, hashes.b)
-        && checksum_is(c, hashes.c)
-        && checksum_is(d, hashes.d)
+    checksum_is(a, hashes[0])
+        && checksum_is(b, hashes[1])
+        && checksum_is(c, hashes[2])
+        && checksum_is(d, hashes[3])
 }
 
 // Whether a block has this number, kind and byte 1, and zeros from end on; the bytes from 2 up to end are free.
@@ -185,7 +183,7 @@ pub fn seal(block: &mut [u8])
 }
 
 // The hashes of four blocks, up to their checksums.
-fn hash_blocks(blocks: &[u8]) -> FourHashes
+fn hash_blocks(blocks: &[u8]) -> [u32; 4]
     requires { length blocks.now ≡ 2048 }
     ensures { HashesOf blocks.now result }
 {
@@ -203,10 +201,10 @@ fn seal_four(blocks: &mut [u8])
     ensures { blocks.new ≡ sealed_blocks 4 blocks.old }
 {
     let hashes = hash_blocks(blocks);
-    put_u32(blocks, 508, hashes.a);
-    put_u32(blocks, 1020, hashes.b);
-    put_u32(blocks, 1532, hashes.c);
-    put_u32(blocks, 2044, hashes.d);
+    put_u32(blocks, 508, hashes[0]);
+    put_u32(blocks, 1020, hashes[1]);
+    put_u32(blocks, 1532, hashes[2]);
+    put_u32(blocks, 2044, hashes[3]);
 }
 
 // Stores the checksums of the first blocks, one by one, as many as are left over from fours, and answers how many those are.

@@ -1,7 +1,7 @@
 // 32-bit FNV-1a. Eight or sixteen zeros at once are one product, and most bytes of a block are zeros.
 #![tactic(auto)]
 
-ghost use Rattle.std.specs.Prelude.{◌≡◌, true, ◌+◌, ◌*◌, ◌%◌, ◌^◌, ◌<◌, ◌≤◌, length, replicate};
+ghost use Rattle.std.specs.Prelude.{◌≡◌, true, ◌+◌, ◌*◌, ◌%◌, ◌^◌, ◌<◌, ◌≤◌, length, replicate, slice_index};
 ghost use Rattle.fnv.specs.Fnv.{step, hash_from, fnv1a};
 ghost use Rattle.fnv.specs.Steps.{ZeroIf, Reached, OneLength, HashedOn, AllReached};
 
@@ -141,50 +141,26 @@ pub fn hash(bytes: &[u8]) -> u32
     mixed_all(part.state, &bytes[at..])
 }
 
-// The hashes of four slices.
-#[derive(Clone, Copy)]
-pub struct FourHashes {
-    pub a: u32,
-    pub b: u32,
-    pub c: u32,
-    pub d: u32,
-}
-
 // The states after all of four slices of one length, side by side: no product waits for that of another slice.
-fn mixed_four(from: FourHashes, a: &[u8], b: &[u8], c: &[u8], d: &[u8]) -> FourHashes
+fn mixed_four(from: [u32; 4], a: &[u8], b: &[u8], c: &[u8], d: &[u8]) -> [u32; 4]
     requires { OneLength a.now b.now c.now d.now }
     ensures { HashedOn from a.now b.now c.now d.now result }
 {
-    let mut state_a = from.a;
-    let mut state_b = from.b;
-    let mut state_c = from.c;
-    let mut state_d = from.d;
-    let mut i = 0;
-    while i < a.len() {
+    let [mut state_a, mut state_b, mut state_c, mut state_d] = from;
+    for i in 0..a.len() {
         state_a = mixed(state_a, a[i]);
         state_b = mixed(state_b, b[i]);
         state_c = mixed(state_c, c[i]);
         state_d = mixed(state_d, d[i]);
-        i += 1;
     }
-    FourHashes {
-        a: state_a,
-        b: state_b,
-        c: state_c,
-        d: state_d,
-    }
+    [state_a, state_b, state_c, state_d]
 }
 
 // The states after eight zeros in each of four slices.
-fn four_zeros(from: FourHashes) -> FourHashes
+fn four_zeros(from: [u32; 4]) -> [u32; 4]
     ensures { HashedOn from (replicate 8 0) (replicate 8 0) (replicate 8 0) (replicate 8 0) result }
 {
-    FourHashes {
-        a: mixed_zeros::<8>(from.a, EIGHT_ZEROS),
-        b: mixed_zeros::<8>(from.b, EIGHT_ZEROS),
-        c: mixed_zeros::<8>(from.c, EIGHT_ZEROS),
-        d: mixed_zeros::<8>(from.d, EIGHT_ZEROS),
-    }
+    from.map(|state| mixed_zeros::<8>(state, EIGHT_ZEROS))
 }
 
 // The bits that are set in any of four words, so that one comparison tests them all.
@@ -198,7 +174,7 @@ fn any_at(a: &[u8], b: &[u8], c: &[u8], d: &[u8], at: usize) -> u64
 // Four hashes that have come up to a place.
 #[derive(Clone, Copy)]
 struct FourParts {
-    states: FourHashes,
+    states: [u32; 4],
     at: usize,
 }
 
@@ -218,7 +194,8 @@ fn past_zeros(from: FourParts, a: &[u8], b: &[u8], c: &[u8], d: &[u8]) -> FourPa
         if any_at(a, b, c, d, at) != 0 {
             return FourParts { states, at };
         }
-        states = four_zeros(states);
+        let mixed = four_zeros(states);
+        states = mixed;
         at += 8;
     }
     FourParts { states, at }
@@ -251,14 +228,8 @@ fn hash_four_words(a: &[u8], b: &[u8], c: &[u8], d: &[u8]) -> FourParts
     requires { OneLength a.now b.now c.now d.now }
     ensures { AllReached a.now b.now c.now d.now result.at result.states }
 {
-    let start = FourHashes {
-        a: 2166136261,
-        b: 2166136261,
-        c: 2166136261,
-        d: 2166136261,
-    };
     let mut parts = FourParts {
-        states: start,
+        states: [2166136261; 4],
         at: 0,
     };
     while 8 <= a.len() - parts.at {
@@ -268,9 +239,9 @@ fn hash_four_words(a: &[u8], b: &[u8], c: &[u8], d: &[u8]) -> FourParts
 }
 
 // The hashes of four slices of one length.
-pub fn hash_four(a: &[u8], b: &[u8], c: &[u8], d: &[u8]) -> FourHashes
+pub fn hash_four(a: &[u8], b: &[u8], c: &[u8], d: &[u8]) -> [u32; 4]
     requires { (length b.now ≡ length a.now) × (length c.now ≡ length a.now) × (length d.now ≡ length a.now) }
-    ensures { (result.a ≡ fnv1a a.now) × (result.b ≡ fnv1a b.now) × (result.c ≡ fnv1a c.now) × (result.d ≡ fnv1a d.now) }
+    ensures { (slice_index result 0 ≡ fnv1a a.now) × (slice_index result 1 ≡ fnv1a b.now) × (slice_index result 2 ≡ fnv1a c.now) × (slice_index result 3 ≡ fnv1a d.now) }
 {
     let parts = hash_four_words(a, b, c, d);
     let at = parts.at;

@@ -201,10 +201,9 @@ fn seal_four(blocks: &mut [u8])
     ensures { blocks.new ≡ sealed_blocks 4 blocks.old }
 {
     let hashes = hash_blocks(blocks);
-    put_u32(blocks, 508, hashes[0]);
-    put_u32(blocks, 1020, hashes[1]);
-    put_u32(blocks, 1532, hashes[2]);
-    put_u32(blocks, 2044, hashes[3]);
+    for (k, hash) in hashes.iter().enumerate() {
+        put_u32(blocks, 512 * k + 508, *hash);
+    }
 }
 
 // Stores the checksums of the first blocks, one by one, as many as are left over from fours, and answers how many those are.

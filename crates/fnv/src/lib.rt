@@ -96,6 +96,7 @@ fn past_pairs(from: Part, bytes: &[u8]) -> Part
     ensures { Reached 2166136261 bytes.now result.at result.state × (from.at ≤ result.at) }
 {
     let mut state = from.state;
+    // The place is handed on, and an iterator over pairs would leave it to be computed.
     let mut at = from.at;
     while 16 <= bytes.len() - at {
         if pair_at(bytes, at) != 0 {
@@ -126,6 +127,7 @@ fn hash_words(bytes: &[u8]) -> Part
         state: 2166136261,
         at: 0,
     };
+    // A step is one word and the zeros behind it: no two are equally long.
     while 8 <= bytes.len() - part.at {
         part = next_word(part, bytes);
     }
@@ -141,7 +143,8 @@ pub fn hash(bytes: &[u8]) -> u32
     mixed_all(part.state, &bytes[at..])
 }
 
-// The states after all of four slices of one length, side by side: no product waits for that of another slice.
+// The states after all of four slices of one length, side by side: no product waits for that of another slice. Any number N of slices would
+// include the one of mixed_all, but the check covers no array of references whose length is a parameter.
 fn mixed_four(from: [u32; 4], a: &[u8], b: &[u8], c: &[u8], d: &[u8]) -> [u32; 4]
     requires { OneLength a.now b.now c.now d.now }
     ensures { HashedOn from a.now b.now c.now d.now result }
@@ -186,6 +189,7 @@ fn past_zeros(from: FourParts, a: &[u8], b: &[u8], c: &[u8], d: &[u8]) -> FourPa
     ensures { AllReached a.now b.now c.now d.now result.at result.states × (from.at ≤ result.at) }
 {
     let mut states = from.states;
+    // The place is that of four slices at once, and it is handed on.
     let mut at = from.at;
     if eight_at(a, at) != 0 {
         return from;
@@ -232,6 +236,7 @@ fn hash_four_words(a: &[u8], b: &[u8], c: &[u8], d: &[u8]) -> FourParts
         states: [2166136261; 4],
         at: 0,
     };
+    // A step is as many words as are zeros, and one more.
     while 8 <= a.len() - parts.at {
         parts = next_words(parts, a, b, c, d);
     }

@@ -4,10 +4,9 @@ use Prim.Native.Nat.{ℕ, zero, suc, ◌+◌, ◌-◌, ◌*◌, ◌/◌, ◌%◌
 use mathlib.Core.Path.{◌≡◌, refl, sym, ap, ap₂, ◌∙◌}
 use mathlib.Core.Bool.{Bool, true, ◌&&◌}
 use mathlib.Core.List.{List, [], ◌∷◌, ◌++◌, append_assoc}
-use native.Mathlib.Nat.{zero-add, add-zero, add-sub_cancel_left, suc-add, add_assoc, mul-zero, mul-suc, mul_assoc, mul_comm, pow-suc, div-one, div-div-eq-div-mul}
+use native.Mathlib.Nat.{add-zero, add-sub_cancel_left, mul-zero, mul-suc, mul_assoc, mul_comm, pow-suc, div-one, div-div-eq-div-mul}
 use native.Mathlib.Numerals.{add-one}
 use native.Mathlib.Omega.{arith}
-use lib.Arith.{mod-mul}
 use lib.Dec.{eqb}
 use lib.ListN.{length, get_or, take, drop, replicate, length-append, length-take, length-drop, length-replicate, get_or-replicate, replicate-append-replicate}
 use lib.Pow.{pow-add}
@@ -176,16 +175,6 @@ field-eight bs at h =
       field-of-four bs (at + 4) (at + 5) (at + 6) (at + 7) (at + 8) (omega arith) (omega arith) (omega arith) (omega arith) h,
     )
 
-pub le-add : (a b n : ℕ) → le (a + b) n ≡ le a (n % 256 ^ a) ++ le b (n / 256 ^ a)
-unfolding le
-le-add zero b n = rw (zero-add, div-one)
-le-add (suc a) b n =
-    let m : n % 256 ^ suc a ≡ n / 256 % 256 ^ a * 256 + n % 256 = rw pow-suc (mod-mul n (pow_pos a) (omega arith)) in
-    let low : n % 256 ^ suc a % 256 ≡ n % 256 = omega arith in
-    let high : n % 256 ^ suc a / 256 ≡ n / 256 % 256 ^ a = omega arith in
-    let rest : n / 256 ^ suc a ≡ n / 256 / 256 ^ a = rw (pow-suc, mul_comm (256 ^ a) 256, div-div-eq-div-mul) in
-    rw (suc-add, low, high, rest) (ap (λ (r : List ℕ). n % 256 ∷ r) (le-add a b (n / 256)))
-
 -- reading a byte
 
 pub field-byte : (bs : List ℕ) (at : ℕ) → at < length bs → field bs at 1 ≡ get_or bs at 0
@@ -264,18 +253,6 @@ pub same-field : (bs : List ℕ) (at w n : ℕ) → AllBytes bs → at + w ≤ l
 unfolding field
 same-field bs at w n b l h =
     same-le w n (take w (drop at bs)) (bytes_take w (drop at bs) (bytes_drop at bs b)) (length_part at w bs l) h
-
--- storing the low half and then the high half is storing the number
-pub put-halves : (w : ℕ) (bs mid new : List ℕ) (at v : ℕ) → at ≤ length bs
-    → mid ≡ take at bs ++ le w (v % 256 ^ w) ++ drop (at + w) bs
-    → new ≡ take (at + w) mid ++ le w (v / 256 ^ w) ++ drop (at + w + w) mid
-    → new ≡ take at bs ++ le (w + w) v ++ drop (at + (w + w)) bs
-put-halves w bs mid new at v h p q =
-    let low : List ℕ = take at bs ++ le w (v % 256 ^ w) in
-    let l : length low ≡ at + w = omega (arith, length-append (take at bs) (le w (v % 256 ^ w)), length-take-le at bs h, length-le w (v % 256 ^ w)) in
-    let front : take (at + w) mid ≡ low = rw p (take_at low (drop (at + w) bs) (at + w) l) in
-    let back : drop (at + w) mid ≡ drop (at + w) bs = rw p (drop_at low (drop (at + w) bs) (at + w) l) in
-    rw (q, ← drop-drop w (at + w) mid, front, back, drop-drop, le-add, ← append_assoc, add_assoc)
 
 -- zeros
 

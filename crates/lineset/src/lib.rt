@@ -29,6 +29,7 @@ impl LineSet {
         self
     }
 
+    // This and the next differ in their operator alone; to pass it as a closure would take more lines than the loop.
     pub fn union(mut self, other: LineSet) -> Self
         ensures { (d : ℕ) → members result d ≡ (members self d || members other d) }
     {

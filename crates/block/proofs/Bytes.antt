@@ -2,15 +2,18 @@
 -- Assumes nothing.
 use Prim.Native.Nat.{ℕ, zero, suc, ◌+◌, ◌-◌, ◌*◌, ◌/◌, ◌%◌, ◌^◌, ◌<◌, ◌≤◌}
 use mathlib.Core.Path.{◌≡◌, refl, sym, ap, ap₂, ◌∙◌}
-use mathlib.Core.Bool.{true, ◌&&◌}
+use mathlib.Core.Bool.{Bool, true, ◌&&◌}
 use mathlib.Core.List.{List, [], ◌∷◌, ◌++◌, append_assoc}
-use native.Mathlib.Nat.{zero-add, add-zero, suc-add, add_assoc, mul-zero, mul-suc, mul_assoc, mul_comm, pow-suc, div-one, div-div-eq-div-mul}
+use native.Mathlib.Nat.{add-zero, add-sub_cancel_left, mul-zero, mul-suc, mul_assoc, mul_comm, pow-suc, div-one, div-div-eq-div-mul}
+use native.Mathlib.Numerals.{add-one}
 use native.Mathlib.Omega.{arith}
-use lib.Arith.{mod-mul}
 use lib.Dec.{eqb}
-use lib.ListN.{length, get_or, take, drop, set, replicate, length-append, length-take, length-drop, length-replicate, get_or-replicate, replicate-append-replicate}
+use lib.ListN.{length, get_or, take, drop, replicate, length-append, length-take, length-drop, length-replicate, get_or-replicate, replicate-append-replicate}
 use lib.Pow.{pow-add}
-use lib.Seq.{take-take, take-add, take_at, drop-drop, drop-cons, drop_at, length-take-le, get_or-take, get_or-drop, take-suc-set, drop-set-lt, append_snoc}
+use lib.Seq.{take-take, take-add, take_at, drop-drop, drop-cons, drop_at, length-take-le, get_or-take, get_or-drop}
+use borrow.Rule.Slice.PartMut.{put_mid}
+use Rattle.std.specs.Int.{w16, w32, w64, from_le_bytes, bytes_low_first}
+use Rattle.std.specs.List.{list_all}
 use Rattle.model.specs.Lists.{same_list}
 use Rattle.model.proofs.Lists.{same-eqb, same-append}
 use Rattle.block.specs.Bytes.{AllBytes, le, les, value, field, fields, zeros_between, Each}
@@ -101,6 +104,53 @@ pub field_below : (bs : List ℕ) (at w : ℕ) → AllBytes bs → field bs at w
 unfolding field
 field_below bs at w b = rw (← pow-bytes) (value-take-below w (drop at bs) (bytes_drop at bs b))
 
+-- the library's reading and writing
+
+field-zero : (bs : List ℕ) (at : ℕ) → field bs at 0 ≡ 0
+unfolding field value
+field-zero bs at = refl
+
+field-next : (bs : List ℕ) (i j w : ℕ) → j ≡ i + 1 → j ≤ length bs → field bs i (suc w) ≡ get_or bs i 0 + 256 * field bs j w
+unfolding field value
+field-next bs i j w e h =
+    let l : i < length bs = omega arith in
+    rw (drop-cons bs i 0 l, e, add-one)
+
+pub field-two : (bs : List ℕ) (at : ℕ) → at + 2 ≤ length bs → from_le_bytes w16 (get_or bs at 0 ∷ get_or bs (at + 1) 0 ∷ []) ≡ field bs at 2
+field-two bs at h =
+    omega (arith, field-next bs at (at + 1) 1 (omega arith) (omega arith), field-next bs (at + 1) (at + 2) 0 (omega arith) (omega arith), field-zero bs (at + 2))
+
+field-of-four : (bs : List ℕ) (at a b c d : ℕ) → a ≡ at + 1 → b ≡ at + 2 → c ≡ at + 3 → d ≡ at + 4 → d ≤ length bs
+    → get_or bs at 0 + get_or bs a 0 * 256 + get_or bs b 0 * 65536 + get_or bs c 0 * 16777216 ≡ field bs at 4
+field-of-four bs at a b c d ea eb ec ed h =
+    omega (
+      arith,
+      field-next bs at a 3 (omega arith) (omega arith),
+      field-next bs a b 2 (omega arith) (omega arith),
+      field-next bs b c 1 (omega arith) (omega arith),
+      field-next bs c d 0 (omega arith) (omega arith),
+      field-zero bs d,
+    )
+
+pub field-four : (bs : List ℕ) (at : ℕ) → at + 4 ≤ length bs
+    → from_le_bytes w32 (get_or bs at 0 ∷ get_or bs (at + 1) 0 ∷ get_or bs (at + 2) 0 ∷ get_or bs (at + 3) 0 ∷ []) ≡ field bs at 4
+field-four bs at h = field-of-four bs at (at + 1) (at + 2) (at + 3) (at + 4) refl refl refl refl h
+
+pub bytes-le : (i w n : ℕ) → bytes_low_first i w n ≡ le w (n / 256 ^ i)
+unfolding le
+bytes-le i zero n = refl
+bytes-le zero (suc w) n = rw div-one (ap (λ (r : List ℕ). n % 256 ∷ r) (bytes-le 1 w n))
+bytes-le (suc i) (suc w) n =
+    let next : n / 256 ^ suc (suc i) ≡ n / 256 ^ suc i / 256 = rw (pow-suc 256 (suc i), div-div-eq-div-mul) in
+    ap (λ (r : List ℕ). n / 256 ^ suc i % 256 ∷ r) (bytes-le (suc (suc i)) w n ∙ ap (le w) next)
+
+pub bytes-le-all : (w n : ℕ) → bytes_low_first 0 w n ≡ le w n
+bytes-le-all w n = bytes-le 0 w n ∙ ap (le w) (div-one n)
+
+-- w bytes are stored
+pub put-part : (at w : ℕ) (bs part bytes : List ℕ) → part ≡ bytes → put_mid at (at + w - at) bs part ≡ take at bs ++ bytes ++ drop (at + w) bs
+put-part at w bs part bytes e = rw (e, add-sub_cancel_left at w, drop-drop, append_assoc)
+
 -- a number of a + b bytes is a number of a bytes and one of b bytes
 
 value-append : (xs ys : List ℕ) → value (xs ++ ys) ≡ value xs + 256 ^ length xs * value ys
@@ -114,15 +164,16 @@ unfolding field
 field-add bs at a b h =
     rw (take-add, drop-drop, value-append, length_part at a bs h)
 
-pub le-add : (a b n : ℕ) → le (a + b) n ≡ le a (n % 256 ^ a) ++ le b (n / 256 ^ a)
-unfolding le
-le-add zero b n = rw (zero-add, div-one)
-le-add (suc a) b n =
-    let m : n % 256 ^ suc a ≡ n / 256 % 256 ^ a * 256 + n % 256 = rw pow-suc (mod-mul n (pow_pos a) (omega arith)) in
-    let low : n % 256 ^ suc a % 256 ≡ n % 256 = omega arith in
-    let high : n % 256 ^ suc a / 256 ≡ n / 256 % 256 ^ a = omega arith in
-    let rest : n / 256 ^ suc a ≡ n / 256 / 256 ^ a = rw (pow-suc, mul_comm (256 ^ a) 256, div-div-eq-div-mul) in
-    rw (suc-add, low, high, rest) (ap (λ (r : List ℕ). n % 256 ∷ r) (le-add a b (n / 256)))
+pub field-eight : (bs : List ℕ) (at : ℕ) → at + 8 ≤ length bs
+    → from_le_bytes w64 (get_or bs at 0 ∷ get_or bs (at + 1) 0 ∷ get_or bs (at + 2) 0 ∷ get_or bs (at + 3) 0 ∷ get_or bs (at + 4) 0 ∷ get_or bs (at + 5) 0 ∷ get_or bs (at + 6) 0 ∷ get_or bs (at + 7) 0 ∷ [])
+    ≡ field bs at 8
+field-eight bs at h =
+    omega (
+      arith,
+      field-add bs at 4 4 (omega arith),
+      field-of-four bs at (at + 1) (at + 2) (at + 3) (at + 4) refl refl refl refl (omega arith),
+      field-of-four bs (at + 4) (at + 5) (at + 6) (at + 7) (at + 8) (omega arith) (omega arith) (omega arith) (omega arith) h,
+    )
 
 -- reading a byte
 
@@ -203,18 +254,6 @@ unfolding field
 same-field bs at w n b l h =
     same-le w n (take w (drop at bs)) (bytes_take w (drop at bs) (bytes_drop at bs b)) (length_part at w bs l) h
 
--- storing the low half and then the high half is storing the number
-pub put-halves : (w : ℕ) (bs mid new : List ℕ) (at v : ℕ) → at ≤ length bs
-    → mid ≡ take at bs ++ le w (v % 256 ^ w) ++ drop (at + w) bs
-    → new ≡ take (at + w) mid ++ le w (v / 256 ^ w) ++ drop (at + w + w) mid
-    → new ≡ take at bs ++ le (w + w) v ++ drop (at + (w + w)) bs
-put-halves w bs mid new at v h p q =
-    let low : List ℕ = take at bs ++ le w (v % 256 ^ w) in
-    let l : length low ≡ at + w = omega (arith, length-append (take at bs) (le w (v % 256 ^ w)), length-take-le at bs h, length-le w (v % 256 ^ w)) in
-    let front : take (at + w) mid ≡ low = rw p (take_at low (drop (at + w) bs) (at + w) l) in
-    let back : drop (at + w) mid ≡ drop (at + w) bs = rw p (drop_at low (drop (at + w) bs) (at + w) l) in
-    rw (q, ← drop-drop w (at + w) mid, front, back, drop-drop, le-add, ← append_assoc, add_assoc)
-
 -- zeros
 
 zeros-le : (w : ℕ) → replicate w 0 ≡ le w 0
@@ -243,9 +282,13 @@ zeros-split bs i mid to h k l =
     rw (s, take-add, drop-drop, m, ← replicate-append-replicate)
     (same-append (take (mid - i) (drop i bs)) (replicate (mid - i) 0) _ _ (rw length-replicate (length_part i (mid - i) bs (omega arith))))
 
-pub clear_step : (bs : List ℕ) (i to : ℕ) → i < to → to ≤ length bs
-    → take (suc i) (set bs i 0) ++ replicate (to - suc i) 0 ++ drop to (set bs i 0) ≡ take i bs ++ replicate (to - i) 0 ++ drop to bs
-clear_step bs i to h k =
-    let s : to - i ≡ suc (to - suc i) = omega arith in
-    let l : i < length bs = omega arith in
-    rw (take-suc-set, drop-set-lt, append_snoc, s)
+-- each byte is zero
+pub zeros-all : (bs : List ℕ) → list_all (λ b. eqb b 0) bs ≡ same_list bs (replicate (length bs) 0)
+unfolding same_list
+zeros-all [] = refl
+zeros-all (b ∷ bs) = ap (λ (rest : Bool). eqb b 0 && rest) (zeros-all bs)
+
+pub zeros-rest : (bs : List ℕ) (i to : ℕ) → i ≤ to → to ≤ length bs → list_all (λ b. eqb b 0) (take (to - i) (drop i bs)) ≡ zeros_between bs i to
+zeros-rest bs i to h l =
+    let long : length (take (to - i) (drop i bs)) ≡ to - i = length_part i (to - i) bs (omega arith) in
+    rw long at (zeros-all (take (to - i) (drop i bs)))

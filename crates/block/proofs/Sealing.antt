@@ -5,16 +5,15 @@ use mathlib.Core.Path.{◌≡◌, refl, sym, ap, ◌∙◌}
 use mathlib.Core.List.{List, ◌++◌, append_assoc, append-nil}
 use native.Mathlib.Nat.{zero-add, suc-add}
 use native.Mathlib.Omega.{arith}
-use lib.ListN.{length, take, drop, length-append, length-drop, take-append-drop, drop_of_length-le}
+use lib.ListN.{length, take, drop, length-append, length-drop, take-append-drop}
 use borrow.Rule.Slice.PartMut.{put_mid}
 use lib.Seq.{take_at, drop_at, take-append-le, drop-append-le, drop-drop, length-take-le}
 use Rattle.fnv.specs.Fnv.{fnv1a}
-use Rattle.fnv.specs.declared.FourHashes.{FourHashes}
 use Rattle.block.specs.Bytes.{le}
 use Rattle.block.specs.Blocks.{sealed, sealed_blocks}
-use Rattle.block.specs.Steps.{HashesOf, SealedSoFar}
+use Rattle.block.specs.Steps.{SealedSoFar}
 use Rattle.block.proofs.Blocks.{length-sealed}
-use Rattle.block.proofs.Storing.{Stored, stored-none, stored-kept, stored-number}
+use Rattle.block.proofs.Storing.{Stored, stored-kept, stored-number}
 
 length-sealed-blocks : (n : ℕ) (bs : List ℕ) → 512 * n ≤ length bs → length (sealed_blocks n bs) ≡ 512 * n
 unfolding sealed_blocks
@@ -99,14 +98,9 @@ sealed-next : {n : ℕ} {bs mid new xs : List ℕ} (h : ℕ) → n + 512 ≤ len
 unfolding sealed
 sealed-next h l s p q = rw (← p, ← append_assoc) (stored-number 4 h (stored-kept 508 (omega arith) s) q)
 
--- what `seal_four` stores
-pub four-sealed : (bs b₁ b₂ b₃ b₄ : List ℕ) (hashes : FourHashes) → length bs ≡ 2048 → HashesOf bs hashes
-    → b₁ ≡ take 508 bs ++ le 4 hashes.a ++ drop 512 bs → b₂ ≡ take 1020 b₁ ++ le 4 hashes.b ++ drop 1024 b₁
-    → b₃ ≡ take 1532 b₂ ++ le 4 hashes.c ++ drop 1536 b₂ → b₄ ≡ take 2044 b₃ ++ le 4 hashes.d ++ drop 2048 b₃ → b₄ ≡ sealed_blocks 4 bs
-unfolding sealed_blocks
-four-sealed bs b₁ b₂ b₃ b₄ hashes l h p₁ p₂ p₃ p₄ =
-    let s₁ = sealed-next hashes.a (omega arith) (stored-none 0 bs (omega arith)) h.first p₁ in
-    let s₂ = sealed-next hashes.b (omega arith) s₁ h.second p₂ in
-    let s₃ = sealed-next hashes.c (omega arith) s₂ h.third p₃ in
-    let s₄ = sealed-next hashes.d (omega arith) s₃ h.fourth p₄ in
-    s₄.bytes ∙ rw (drop_of_length-le bs {i = 2048} (omega arith)) (simp (append-nil, append_assoc, drop-drop))
+-- the block from number k on has its checksum too
+pub sealed-stored : {bs mid new : List ℕ} (k h : ℕ) → 512 * k + 512 ≤ length bs → Stored (512 * k) bs mid (sealed_blocks k bs) → h ≡ fnv1a (take 508 (drop (512 * k) bs))
+    → new ≡ take (512 * k + 508) mid ++ le 4 h ++ drop (512 * k + 508 + 4) mid → Stored (512 * (k + 1)) bs new (sealed_blocks (k + 1) bs)
+sealed-stored {bs} k h l s p q =
+    let end : 512 * (k + 1) ≡ 512 * k + 508 + 4 = omega arith in
+    rw (end, sealed-add k 1 bs, ← sealed-one (drop (512 * k) bs)) (sealed-next h l s p q)

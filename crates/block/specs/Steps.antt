@@ -1,15 +1,11 @@
 -- What two steps of storing checksums answer. Assumes nothing.
-use Rattle.std.specs.Prelude.{ℕ, ◌-◌, ◌*◌, ◌≤◌, ◌≡◌, List, ◌++◌, take, drop}
+use Rattle.std.specs.Prelude.{ℕ, ◌-◌, ◌*◌, ◌<◌, ◌≤◌, ◌≡◌, List, ◌++◌, take, drop, slice_index}
 use Rattle.fnv.specs.Fnv.{fnv1a}
-use Rattle.fnv.specs.declared.FourHashes.{FourHashes}
 use Rattle.block.specs.Blocks.{sealed_blocks}
 
 -- the hashes of four blocks, up to their checksums
-pub record HashesOf (bs : List ℕ) (hashes : FourHashes) : Type 0 where
-  pub first : hashes.a ≡ fnv1a (take 508 bs)
-  pub second : hashes.b ≡ fnv1a (take 508 (drop 512 bs))
-  pub third : hashes.c ≡ fnv1a (take 508 (drop 1024 bs))
-  pub fourth : hashes.d ≡ fnv1a (take 508 (drop 1536 bs))
+abbrev pub HashesOf : List ℕ → List ℕ → Type 0
+HashesOf bs hashes = (k : ℕ) → k < 4 → slice_index hashes k ≡ fnv1a (take 508 (drop (512 * k) bs))
 
 -- of n blocks that are to have their checksums, the first k have them in new
 pub record SealedSoFar (bs : List ℕ) (n : ℕ) (new : List ℕ) (k : ℕ) : Type 0 where

@@ -1,22 +1,19 @@
 // Numbers in bytes, their lowest byte first, and the frame of a block of 512 bytes.
 #![tactic(auto)]
 
-ghost use Rattle.std.specs.Prelude.{◌≡◌, ◌&&◌, ◌++◌, ◌+◌, ◌-◌, ◌*◌, ◌%◌, ◌≤◌, eqb, length, take, drop, replicate};
+ghost use Rattle.std.specs.Prelude.{◌≡◌, ◌==◌, ◌&&◌, ◌++◌, ◌+◌, ◌-◌, ◌*◌, ◌%◌, ◌≤◌, eqb, length, take, drop, replicate};
+ghost use Rattle.std.specs.List.{list_all};
 ghost use Rattle.fnv.specs.Fnv.{fnv1a};
 ghost use Rattle.block.specs.Bytes.{le, les, field, zeros_between};
 ghost use Rattle.block.specs.Blocks.{numbered, sealed, sealed_blocks, checksum_right, body_right, framed};
 ghost use Rattle.block.specs.Steps.{HashesOf, SealedSoFar};
-
-use fnv::FourHashes;
 
 // The number in two bytes.
 pub fn u16_at(bytes: &[u8], at: usize) -> u16
     requires { at + 2 ≤ length bytes.now }
     ensures { result ≡ field bytes.now at 2 }
 {
-    let low = bytes[at] as u16;
-    let high = bytes[at + 1] as u16;
-    low + 256 * high
+    u16::from_le_bytes([bytes[at], bytes[at + 1]])
 }
 
 // The number in four bytes.
@@ -24,7 +21,7 @@ pub fn u32_at(bytes: &[u8], at: usize) -> u32
     requires { at + 4 ≤ length bytes.now }
     ensures { result ≡ field bytes.now at 4 }
 {
-    u16_at(bytes, at) as u32 + 65536 * (u16_at(bytes, at + 2) as u32)
+    u32::from_le_bytes([bytes[at], bytes[at + 1], bytes[at + 2], bytes[at + 3]])
 }
 
 // The number in eight bytes.
@@ -32,7 +29,16 @@ pub fn u64_at(bytes: &[u8], at: usize) -> u64
     requires { at + 8 ≤ length bytes.now }
     ensures { result ≡ field bytes.now at 8 }
 {
-    u32_at(bytes, at) as u64 + 4294967296 * (u32_at(bytes, at + 4) as u64)
+    u64::from_le_bytes([
+        bytes[at],
+        bytes[at + 1],
+        bytes[at + 2],
+        bytes[at + 3],
+        bytes[at + 4],
+        bytes[at + 5],
+        bytes[at + 6],
+        bytes[at + 7],
+    ])
 }
 
 // The or of words of eight bytes, one behind another from start on: zero just where all their bytes are.
@@ -41,12 +47,17 @@ fn any_of_words(bytes: &[u8], start: usize, count: usize) -> u64
     ensures { eqb result 0 ≡ zeros_between bytes.now start (start + 8 * count) }
 {
     let mut any = 0;
-    let mut i = 0;
-    while i < count {
+    for i in 0..count {
         any |= u64_at(bytes, start + 8 * i);
-        i += 1;
     }
     any
+}
+
+// Whether bytes are all zero.
+fn all_zero(bytes: &[u8]) -> bool
+    ensures { result ≡ list_all (λ byte. byte == 0) bytes.now }
+{
+    bytes.iter().all(|byte| *byte == 0)
 }
 
 // Whether the bytes from start up to end are all zero; the byte at end is not looked at.
@@ -58,17 +69,8 @@ pub fn zero_between(bytes: &[u8], start: usize, end: usize) -> bool
         return true;
     }
     let words = (end - start) / 8;
-    if any_of_words(bytes, start, words) != 0 {
-        return false;
-    }
-    let mut i = start + 8 * words;
-    while i < end {
-        if bytes[i] != 0 {
-            return false;
-        }
-        i += 1;
-    }
-    true
+    let rest = start + 8 * words;
+    any_of_words(bytes, start, words) == 0 && all_zero(&bytes[rest..end])
 }
 
 // Whether a block's last four bytes are this hash of the others.
@@ -93,16 +95,10 @@ pub fn four_checksums_right(a: &[u8], b: &[u8], c: &[u8], d: &[u8]) -> bool
     ensures { result ≡ (checksum_right a.now && checksum_right b.now && checksum_right c.now && checksum_right d.now) }
 {
     let hashes = fnv::hash_four(&a[..508], &b[..508], &c[..508], &d[..508]);
-    if !checksum_is(a, hashes.a) {
-        return false;
-    }
-    if !checksum_is(b, hashes.b) {
-        return false;
-    }
-    if !checksum_is(c, hashes.c) {
-        return false;
-    }
-    checksum_is(d, hashes.d)
+    checksum_is(a, hashes[0])
+        && checksum_is(b, hashes[1])
+        && checksum_is(c, hashes[2])
+        && checksum_is(d, hashes[3])
 }
 
 // Whether a block has this number, kind and byte 1, and zeros from end on; the bytes from 2 up to end are free.
@@ -111,16 +107,10 @@ pub fn body_right(block: &[u8], number: u32, kind: u8, byte_1: u8, end: usize) -
     requires le_end { (2 ≤ end) × (end ≤ 504) }
     ensures { result ≡ body_right number (framed kind byte_1 end block.now) block.now }
 {
-    if block[0] != kind {
-        return false;
-    }
-    if block[1] != byte_1 {
-        return false;
-    }
-    if !zero_between(block, end, 504) {
-        return false;
-    }
-    u32_at(block, 504) == number
+    block[0] == kind
+        && block[1] == byte_1
+        && zero_between(block, end, 504)
+        && u32_at(block, 504) == number
 }
 
 // Stores a byte.
@@ -136,8 +126,7 @@ pub fn put_u16(bytes: &mut [u8], at: usize, v: u16)
     requires { at + 2 ≤ length bytes.old }
     ensures { bytes.new ≡ take at bytes.old ++ le 2 v ++ drop (at + 2) bytes.old }
 {
-    bytes[at] = (v % 256) as u8;
-    bytes[at + 1] = (v / 256) as u8;
+    bytes[at..at + 2].copy_from_slice(&v.to_le_bytes());
 }
 
 // Stores a number in four bytes.
@@ -145,8 +134,7 @@ pub fn put_u32(bytes: &mut [u8], at: usize, v: u32)
     requires { at + 4 ≤ length bytes.old }
     ensures { bytes.new ≡ take at bytes.old ++ le 4 v ++ drop (at + 4) bytes.old }
 {
-    put_u16(bytes, at, (v % 65536) as u16);
-    put_u16(bytes, at + 2, (v / 65536) as u16);
+    bytes[at..at + 4].copy_from_slice(&v.to_le_bytes());
 }
 
 // Stores a number in eight bytes.
@@ -154,8 +142,7 @@ pub fn put_u64(bytes: &mut [u8], at: usize, v: u64)
     requires { at + 8 ≤ length bytes.old }
     ensures { bytes.new ≡ take at bytes.old ++ le 8 v ++ drop (at + 8) bytes.old }
 {
-    put_u32(bytes, at, (v % 4294967296) as u32);
-    put_u32(bytes, at + 4, (v / 4294967296) as u32);
+    bytes[at..at + 8].copy_from_slice(&v.to_le_bytes());
 }
 
 // Stores numbers in four bytes each, one behind another.
@@ -163,10 +150,8 @@ pub fn put_u32s(bytes: &mut [u8], at: usize, values: &[u32])
     requires { at + 4 * length values.now ≤ length bytes.old }
     ensures { bytes.new ≡ take at bytes.old ++ les 4 values.now ++ drop (at + 4 * length values.now) bytes.old }
 {
-    let mut i = 0;
-    while i < values.len() {
-        put_u32(bytes, at + 4 * i, values[i]);
-        i += 1;
+    for (i, value) in values.iter().enumerate() {
+        put_u32(bytes, at + 4 * i, *value);
     }
 }
 
@@ -175,11 +160,7 @@ fn clear_between(bytes: &mut [u8], start: usize, end: usize)
     requires { (start ≤ end) × (end ≤ length bytes.old) }
     ensures { bytes.new ≡ take start bytes.old ++ replicate (end - start) 0 ++ drop end bytes.old }
 {
-    let mut i = start;
-    while i < end {
-        bytes[i] = 0;
-        i += 1;
-    }
+    bytes[start..end].fill(0);
 }
 
 // Stores what follows a block's named bytes, which end before end: zeros and its number.
@@ -202,7 +183,7 @@ pub fn seal(block: &mut [u8])
 }
 
 // The hashes of four blocks, up to their checksums.
-fn hash_blocks(blocks: &[u8]) -> FourHashes
+fn hash_blocks(blocks: &[u8]) -> [u32; 4]
     requires { length blocks.now ≡ 2048 }
     ensures { HashesOf blocks.now result }
 {
@@ -220,10 +201,9 @@ fn seal_four(blocks: &mut [u8])
     ensures { blocks.new ≡ sealed_blocks 4 blocks.old }
 {
     let hashes = hash_blocks(blocks);
-    put_u32(blocks, 508, hashes.a);
-    put_u32(blocks, 1020, hashes.b);
-    put_u32(blocks, 1532, hashes.c);
-    put_u32(blocks, 2044, hashes.d);
+    for (k, hash) in hashes.iter().enumerate() {
+        put_u32(blocks, 512 * k + 508, *hash);
+    }
 }
 
 // Stores the checksums of the first blocks, one by one, as many as are left over from fours, and answers how many those are.
@@ -232,14 +212,12 @@ fn seal_few(file: &mut [u8], count: usize) -> usize
     ensures { SealedSoFar file.old count file.new result × (result ≡ count % 4) }
 {
     let few = count % 4;
-    let mut k = 0;
-    while k < few {
+    for k in 0..few {
         let start = k * 512;
         let end = start + 512;
         seal(&mut file[start..end]);
-        k += 1;
     }
-    k
+    few
 }
 
 // Stores the checksums of the first blocks, four at a time behind a few: the header is among those, and most of its bytes are zeros.
@@ -247,11 +225,10 @@ pub fn seal_blocks(file: &mut [u8], count: usize)
     requires { 512 * count ≤ length file.old }
     ensures { file.new ≡ sealed_blocks count file.old ++ drop (512 * count) file.old }
 {
-    let mut k = seal_few(file, count);
-    while k < count {
-        let start = k * 512;
+    let few = seal_few(file, count);
+    for i in 0..count / 4 {
+        let start = (few + 4 * i) * 512;
         let end = start + 2048;
         seal_four(&mut file[start..end]);
-        k += 4;
     }
 }

@@ -1,6 +1,7 @@
 -- A number in decimal digits, one digit after the other: what follows a number n of digits adds to n with as many zeros.
 -- Assumes nothing.
 use Rattle.std.specs.Prelude.{None, Option, Some}
+use Rattle.std.specs.Option.{SomeIff}
 use Prim.Native.Nat.{ℕ, suc, ◌+◌, ◌-◌, ◌*◌, ◌^◌, ◌≤◌, ◌<◌, min}
 use mathlib.Core.Path.{◌≡◌, refl}
 use mathlib.Core.Bool.{Bool, true, false, cond, ◌&&◌, and-false, and-eq-true_iff}
@@ -10,7 +11,7 @@ use native.Mathlib.Decide.{dec_le}
 use native.Mathlib.Nat.{add_assoc, add-mul, add-zero, zero-add, zero-mul, mul-one, mul_assoc, one-le-pow, le-mul_of_pos_right, pow-succ'}
 use native.Mathlib.Numerals.{add-one}
 use native.Mathlib.Omega.{arith}
-use borrow.Author.Tests.{lt-ltb, le-ltb, ltb-false, leb-true}
+use borrow.Author.Tests.{lt-ltb, le-ltb, le-leb, ltb-false, leb-true}
 use lib.Dec.{leb, ltb}
 use lib.ListN.{length, get_or, drop}
 use lib.Seq.{drop-cons}
@@ -57,6 +58,12 @@ pub next-byte : {d : Option ℕ} (text : List ℕ) (i n : ℕ) → with_digit n 
     → followed n (drop i text) ≡ followed_by d (drop (i + 1) text)
 next-byte text i n e h =
     rw (add-one, drop-cons text i 0 h, ← e) (next-digit n (get_or text i 0) (drop (suc i) text))
+
+-- what `with_digit` answers once ten times the number fits
+pub digit-added : (r : Option ℕ) (n b : ℕ) → 48 ≤ b → b ≤ 57 → SomeIff r (n * 10 + (b - 48) < 2 ^ 64) (n * 10 + (b - 48)) → r ≡ with_digit n b
+unfolding with_digit
+digit-added None n b least most large = let out : 2 ^ 64 ≤ n * 10 + (b - 48) = omega arith in simp (le-ltb _ _ out, and-false)
+digit-added (Some m) n b least most s = let fits = s.0 in rw s.1 (simp (le-leb _ _ least, le-leb _ _ most, lt-ltb _ _ fits))
 
 -- the same up to a bound
 

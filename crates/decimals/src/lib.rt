@@ -1,31 +1,17 @@
 // Numbers in decimal digits: what bytes say.
 #![tactic(auto)]
 
-ghost use Rattle.std.specs.Prelude.{◌≡◌, min};
+ghost use Rattle.std.specs.Prelude.{◌≡◌};
 ghost use Rattle.decimals.specs.Decimals.{with_digit, decimal_of, capped_decimal};
-
-// What bytes say in decimal digits.
-#[derive(Clone, Copy)]
-pub enum Decimal {
-    Number(u64),
-    Nothing,
-}
 
 // A number with one digit more at its end.
 fn with_digit(n: u64, byte: u8) -> Option<u64>
     ensures { result ≡ with_digit n byte }
 {
-    if byte < b'0' {
-        return None;
+    match byte {
+        b'0'..=b'9' => n.checked_mul(10)?.checked_add((byte - b'0') as u64),
+        _ => None,
     }
-    if b'9' < byte {
-        return None;
-    }
-    let digit = (byte - b'0') as u64;
-    if (0xffff_ffff_ffff_ffff - digit) / 10 < n {
-        return None;
-    }
-    Some(n * 10 + digit)
 }
 
 // The number that bytes say: digits alone, and a number below 2^64.
@@ -36,13 +22,8 @@ pub fn decimal_of(text: &[u8]) -> Option<u64>
         return None;
     }
     let mut n = 0;
-    let mut i = 0;
-    while i < text.len() {
-        let Some(more) = with_digit(n, text[i]) else {
-            return None;
-        };
-        n = more;
-        i += 1;
+    for byte in text {
+        n = with_digit(n, *byte)?;
     }
     Some(n)
 }
@@ -51,23 +32,12 @@ pub fn decimal_of(text: &[u8]) -> Option<u64>
 pub fn capped_decimal(text: &[u8], most: u32) -> Option<u64>
     ensures { result ≡ capped_decimal most text.now }
 {
-    if text.len() < 1 {
+    if text.is_empty() {
         return None;
     }
     let mut n = 0;
-    let mut i = 0;
-    while i < text.len() {
-        let Some(more) = with_digit(n, text[i]) else {
-            return None;
-        };
-        n = lesser(more, most as u64);
-        i += 1;
+    for byte in text {
+        n = with_digit(n, *byte)?.min(most as u64);
     }
     Some(n)
-}
-
-fn lesser(a: u64, b: u64) -> u64
-    ensures { result ≡ min a b }
-{
-    if a < b { a } else { b }
 }

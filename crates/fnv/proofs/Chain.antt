@@ -8,6 +8,7 @@ use native.Mathlib.Numerals.{add-one}
 use native.Mathlib.Omega.{arith}
 use lib.ListN.{length, get_or, take, drop, replicate, take-append-drop}
 use lib.Seq.{drop-cons, drop-length, drop-drop}
+use Rattle.std.proofs.Common.{fold}
 use Rattle.fnv.specs.Fnv.{step, hash_from}
 use Rattle.fnv.specs.Steps.{Reached}
 use Rattle.fnv.proofs.Zeros.{all-zero}
@@ -19,6 +20,11 @@ pub chain_next : {from : ℕ} {bytes : List ℕ} {i state next : ℕ} → Reache
     → Reached from bytes (i + 1) next
 unfolding hash_from
 chain_next {from} {bytes} {i} r e h = record { within = omega arith; on = rw (e, add-one) (rw (drop-cons bytes i 0 h) at r.on) }
+
+pub fold-hash : (state : ℕ) (bytes : List ℕ) → fold step state bytes ≡ hash_from state bytes
+unfolding hash_from
+fold-hash state [] = refl
+fold-hash state (x ∷ xs) = fold-hash (step state x) xs
 
 hash-append : (state : ℕ) (xs ys : List ℕ) → hash_from state (xs ++ ys) ≡ hash_from (hash_from state xs) ys
 unfolding hash_from

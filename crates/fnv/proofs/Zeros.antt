@@ -2,7 +2,7 @@
 use Prim.Native.Nat.{ℕ, zero, suc, ◌+◌, ◌-◌, ◌*◌, ◌/◌, ◌%◌, ◌^◌, ◌<◌, ◌≤◌}
 use mathlib.Core.Path.{◌≡◌, refl, sym, subst, ap, ap₂, ◌∙◌}
 use mathlib.Core.Bool.{Bool, true, false}
-use mathlib.Core.List.{List, ◌∷◌}
+use mathlib.Core.List.{List, [], ◌∷◌}
 use native.Mathlib.Nat.{add-zero, mul-one, mul_assoc, mul_comm, div-add-mod', mul-add-mod_self_right, mod-eq_of_lt, pow-suc}
 use native.Mathlib.Omega.{arith}
 use lib.Bits.{bit_or, xor_zero_r, or_add_and, and_le_l, and_le_r}
@@ -10,6 +10,7 @@ use lib.Dec.{ltb}
 use lib.ListN.{length, get_or, take, drop, replicate}
 use lib.Seq.{drop-cons}
 use borrow.Author.Tests.{ltb-true, ltb-false}
+use Rattle.std.specs.Int.{w64, from_le_bytes}
 use Rattle.fnv.specs.Fnv.{step, hash_from}
 use Rattle.fnv.specs.Steps.{ZeroIf}
 
@@ -29,24 +30,25 @@ zeros-product (suc n) s =
     ap (λ (x : ℕ). x % 2 ^ 32) (mul_assoc s 16777619 (16777619 ^ n) ∙ ap (λ (x : ℕ). s * x) (mul_comm 16777619 (16777619 ^ n) ∙ sym (pow-suc 16777619 n)))
 
 -- so n zeros are one, by the low 32 bits of a power
-zeros-power : (n power s : ℕ) → power ≡ 16777619 ^ n % 2 ^ 32 → s < 2 ^ 32 → s * power % 2 ^ 32 ≡ hash_from s (replicate n 0)
+pub zeros-power : (n power s : ℕ) → power ≡ 16777619 ^ n % 2 ^ 32 → s < 2 ^ 32 → s * power % 2 ^ 32 ≡ hash_from s (replicate n 0)
 zeros-power n power s is small =
     let whole : hash_from (s % 2 ^ 32) (replicate n 0) ≡ s * 16777619 ^ n % 2 ^ 32 = zeros-product n s in
     let low : 16777619 ^ n % 2 ^ 32 * s % 2 ^ 32 ≡ 16777619 ^ n * s % 2 ^ 32 = mod-product (16777619 ^ n) s (2 ^ 32) in
     rw (is, mul_comm s (16777619 ^ n % 2 ^ 32)) (low ∙ ap (λ (x : ℕ). x % 2 ^ 32) (mul_comm (16777619 ^ n) s) ∙ sym (rw (mod-eq_of_lt small) at whole))
 
-pub eight-zeros : (s : ℕ) → s < 2 ^ 32 → s * 1566662433 % 2 ^ 32 ≡ hash_from s (replicate 8 0)
-eight-zeros s small = zeros-power 8 1566662433 s refl small
-
-pub sixteen-zeros : (s : ℕ) → s < 2 ^ 32 → s * 878412353 % 2 ^ 32 ≡ hash_from s (replicate 16 0)
-sixteen-zeros s small = zeros-power 16 878412353 s refl small
-
 -- bytes whose number is 0
 
-pub two-zero : (bytes : List ℕ) (at number : ℕ) → number ≡ get_or bytes at 0 + 256 * get_or bytes (at + 1) 0 → ZeroIf 2 bytes at number
-two-zero bytes at number is none zero h = rw add-zero (omega arith)
-two-zero bytes at number is none (suc zero) h = omega arith
-two-zero bytes at number is none (suc (suc j)) h = absurd (omega arith)
+pub word-zero : (bytes : List ℕ) (at number : ℕ) → number ≡ from_le_bytes w64 (get_or bytes at 0 ∷ get_or bytes (at + 1) 0 ∷ get_or bytes (at + 2) 0 ∷ get_or bytes (at + 3) 0 ∷ get_or bytes (at + 4) 0 ∷ get_or bytes (at + 5) 0 ∷ get_or bytes (at + 6) 0 ∷ get_or bytes (at + 7) 0 ∷ [])
+    → ZeroIf 8 bytes at number
+word-zero bytes at number is none zero h = rw add-zero (omega arith)
+word-zero bytes at number is none (suc zero) h = omega arith
+word-zero bytes at number is none (suc (suc zero)) h = omega arith
+word-zero bytes at number is none (suc (suc (suc zero))) h = omega arith
+word-zero bytes at number is none (suc (suc (suc (suc zero)))) h = omega arith
+word-zero bytes at number is none (suc (suc (suc (suc (suc zero))))) h = omega arith
+word-zero bytes at number is none (suc (suc (suc (suc (suc (suc zero)))))) h = omega arith
+word-zero bytes at number is none (suc (suc (suc (suc (suc (suc (suc zero))))))) h = omega arith
+word-zero bytes at number is none (suc (suc (suc (suc (suc (suc (suc (suc j)))))))) h = absurd (omega arith)
 
 pub twice-zero : (n : ℕ) (bytes : List ℕ) (at low high number : ℕ) → ZeroIf n bytes at low → ZeroIf n bytes (at + n) high
     → (number ≡ 0 → low ≡ 0) → (number ≡ 0 → high ≡ 0) → ZeroIf (n + n) bytes at number

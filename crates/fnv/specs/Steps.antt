@@ -1,7 +1,6 @@
 -- What the steps of a hash leave to each other. Assumes nothing.
-use Rattle.std.specs.Prelude.{◌≡◌, ℕ, ◌+◌, ◌<◌, ◌≤◌, List, length, get_or, drop}
+use Rattle.std.specs.Prelude.{◌≡◌, ℕ, ◌+◌, ◌<◌, ◌≤◌, List, length, get_or, drop, slice_index}
 use Rattle.fnv.specs.Fnv.{hash_from}
-use Rattle.fnv.specs.declared.FourHashes.{FourHashes}
 
 -- if a number is 0, the n bytes from a place on are
 abbrev pub ZeroIf : ℕ → List ℕ → ℕ → ℕ → Type 0
@@ -17,15 +16,15 @@ abbrev pub OneLength : List ℕ → List ℕ → List ℕ → List ℕ → Type 
 OneLength a b c d = (length b ≡ length a) × (length c ≡ length a) × (length d ≡ length a)
 
 -- four states, each hashed on over its bytes
-pub record HashedOn (from : FourHashes) (a b c d : List ℕ) (states : FourHashes) : Type 0 where
-  pub first : states.a ≡ hash_from from.a a
-  pub second : states.b ≡ hash_from from.b b
-  pub third : states.c ≡ hash_from from.c c
-  pub fourth : states.d ≡ hash_from from.d d
+pub record HashedOn (from : List ℕ) (a b c d : List ℕ) (states : List ℕ) : Type 0 where
+  pub first : slice_index states 0 ≡ hash_from (slice_index from 0) a
+  pub second : slice_index states 1 ≡ hash_from (slice_index from 1) b
+  pub third : slice_index states 2 ≡ hash_from (slice_index from 2) c
+  pub fourth : slice_index states 3 ≡ hash_from (slice_index from 3) d
 
 -- four hashes that have come up to one place
-pub record AllReached (a b c d : List ℕ) (i : ℕ) (states : FourHashes) : Type 0 where
-  pub first : Reached 2166136261 a i states.a
-  pub second : Reached 2166136261 b i states.b
-  pub third : Reached 2166136261 c i states.c
-  pub fourth : Reached 2166136261 d i states.d
+pub record AllReached (a b c d : List ℕ) (i : ℕ) (states : List ℕ) : Type 0 where
+  pub first : Reached 2166136261 a i (slice_index states 0)
+  pub second : Reached 2166136261 b i (slice_index states 1)
+  pub third : Reached 2166136261 c i (slice_index states 2)
+  pub fourth : Reached 2166136261 d i (slice_index states 3)

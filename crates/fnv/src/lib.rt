@@ -1,7 +1,7 @@
 // 32-bit FNV-1a. Eight or sixteen zeros at once are one product, and most bytes of a block are zeros.
 #![tactic(auto)]
 
-ghost use Rattle.std.specs.Prelude.{◌≡◌, true, ◌+◌, ◌*◌, ◌%◌, ◌^◌, ◌<◌, ◌≤◌, length, replicate};
+ghost use Rattle.std.specs.Prelude.{◌≡◌, true, ◌+◌, ◌*◌, ◌%◌, ◌^◌, ◌<◌, ◌≤◌, length, replicate, slice_index};
 ghost use Rattle.fnv.specs.Fnv.{step, hash_from, fnv1a};
 ghost use Rattle.fnv.specs.Steps.{ZeroIf, Reached, OneLength, HashedOn, AllReached};
 
@@ -23,45 +23,20 @@ pub fn mixed(state: u32, byte: u8) -> u32
 fn mixed_all(from: u32, bytes: &[u8]) -> u32
     ensures { result ≡ hash_from from bytes.now }
 {
-    let mut state = from;
-    let mut i = 0;
-    while i < bytes.len() {
-        state = mixed(state, bytes[i]);
-        i += 1;
-    }
-    state
+    bytes.iter().fold(from, |state, byte| mixed(state, *byte))
 }
 
-// The state after eight zeros: 1566662433 are the low 32 bits of 16777619^8.
-fn mixed_zeros(state: u32) -> u32
-    ensures { result ≡ hash_from state (replicate 8 0) }
-{
-    wrapping_mul(state, 1566662433)
-}
+// The low 32 bits of 16777619^8 and of 16777619^16.
+const EIGHT_ZEROS: u32 = 1566662433;
 
-// The state after sixteen zeros: 878412353 are the low 32 bits of 16777619^16.
-fn sixteen_zeros(state: u32) -> u32
-    ensures { result ≡ hash_from state (replicate 16 0) }
-{
-    wrapping_mul(state, 878412353)
-}
+const SIXTEEN_ZEROS: u32 = 878412353;
 
-// The number that two bytes make.
-fn two_at(bytes: &[u8], at: usize) -> u64
-    requires { at + 2 ≤ length bytes.now }
-    ensures { ZeroIf 2 bytes.now at result × (result < 65536) }
+// The state after N zeros, which are one product with that power of 16777619.
+fn mixed_zeros<const N: usize>(state: u32, power: u32) -> u32
+    requires { power ≡ 16777619 ^ N % 2 ^ 32 }
+    ensures { result ≡ hash_from state (replicate N 0) }
 {
-    let low = bytes[at] as u64;
-    let high = bytes[at + 1] as u64;
-    low + 256 * high
-}
-
-// The number that four bytes make.
-fn four_at(bytes: &[u8], at: usize) -> u64
-    requires { at + 4 ≤ length bytes.now }
-    ensures { ZeroIf 4 bytes.now at result × (result < 4294967296) }
-{
-    two_at(bytes, at) + 65536 * two_at(bytes, at + 2)
+    wrapping_mul(state, power)
 }
 
 // The number that eight bytes make. It is a function of its own for the compiler, which makes one load of it.
@@ -69,7 +44,16 @@ fn eight_at(bytes: &[u8], at: usize) -> u64
     requires { at + 8 ≤ length bytes.now }
     ensures { ZeroIf 8 bytes.now at result }
 {
-    four_at(bytes, at) + 4294967296 * four_at(bytes, at + 4)
+    u64::from_le_bytes([
+        bytes[at],
+        bytes[at + 1],
+        bytes[at + 2],
+        bytes[at + 3],
+        bytes[at + 4],
+        bytes[at + 5],
+        bytes[at + 6],
+        bytes[at + 7],
+    ])
 }
 
 // Whether eight bytes are zeros: the number that they make is.
@@ -86,7 +70,7 @@ fn mixed_word(state: u32, word: &[u8]) -> u32
     ensures { result ≡ hash_from state word.now }
 {
     if is_zero_word(word) {
-        return mixed_zeros(state);
+        return mixed_zeros::<8>(state, EIGHT_ZEROS);
     }
     mixed_all(state, word)
 }
@@ -112,12 +96,13 @@ fn past_pairs(from: Part, bytes: &[u8]) -> Part
     ensures { Reached 2166136261 bytes.now result.at result.state × (from.at ≤ result.at) }
 {
     let mut state = from.state;
+    // The place is handed on, and an iterator over pairs would leave it to be computed.
     let mut at = from.at;
     while 16 <= bytes.len() - at {
         if pair_at(bytes, at) != 0 {
             return Part { state, at };
         }
-        state = sixteen_zeros(state);
+        state = mixed_zeros::<16>(state, SIXTEEN_ZEROS);
         at += 16;
     }
     Part { state, at }
@@ -142,6 +127,7 @@ fn hash_words(bytes: &[u8]) -> Part
         state: 2166136261,
         at: 0,
     };
+    // A step is one word and the zeros behind it: no two are equally long.
     while 8 <= bytes.len() - part.at {
         part = next_word(part, bytes);
     }
@@ -157,50 +143,27 @@ pub fn hash(bytes: &[u8]) -> u32
     mixed_all(part.state, &bytes[at..])
 }
 
-// The hashes of four slices.
-#[derive(Clone, Copy)]
-pub struct FourHashes {
-    pub a: u32,
-    pub b: u32,
-    pub c: u32,
-    pub d: u32,
-}
-
-// The states after all of four slices of one length, side by side: no product waits for that of another slice.
-fn mixed_four(from: FourHashes, a: &[u8], b: &[u8], c: &[u8], d: &[u8]) -> FourHashes
+// The states after all of four slices of one length, side by side: no product waits for that of another slice. Any number N of slices would
+// include the one of mixed_all, but the check covers no array of references whose length is a parameter.
+fn mixed_four(from: [u32; 4], a: &[u8], b: &[u8], c: &[u8], d: &[u8]) -> [u32; 4]
     requires { OneLength a.now b.now c.now d.now }
     ensures { HashedOn from a.now b.now c.now d.now result }
 {
-    let mut state_a = from.a;
-    let mut state_b = from.b;
-    let mut state_c = from.c;
-    let mut state_d = from.d;
-    let mut i = 0;
-    while i < a.len() {
+    let [mut state_a, mut state_b, mut state_c, mut state_d] = from;
+    for i in 0..a.len() {
         state_a = mixed(state_a, a[i]);
         state_b = mixed(state_b, b[i]);
         state_c = mixed(state_c, c[i]);
         state_d = mixed(state_d, d[i]);
-        i += 1;
     }
-    FourHashes {
-        a: state_a,
-        b: state_b,
-        c: state_c,
-        d: state_d,
-    }
+    [state_a, state_b, state_c, state_d]
 }
 
 // The states after eight zeros in each of four slices.
-fn four_zeros(from: FourHashes) -> FourHashes
+fn four_zeros(from: [u32; 4]) -> [u32; 4]
     ensures { HashedOn from (replicate 8 0) (replicate 8 0) (replicate 8 0) (replicate 8 0) result }
 {
-    FourHashes {
-        a: mixed_zeros(from.a),
-        b: mixed_zeros(from.b),
-        c: mixed_zeros(from.c),
-        d: mixed_zeros(from.d),
-    }
+    from.map(|state| mixed_zeros::<8>(state, EIGHT_ZEROS))
 }
 
 // The bits that are set in any of four words, so that one comparison tests them all.
@@ -214,7 +177,7 @@ fn any_at(a: &[u8], b: &[u8], c: &[u8], d: &[u8], at: usize) -> u64
 // Four hashes that have come up to a place.
 #[derive(Clone, Copy)]
 struct FourParts {
-    states: FourHashes,
+    states: [u32; 4],
     at: usize,
 }
 
@@ -226,6 +189,7 @@ fn past_zeros(from: FourParts, a: &[u8], b: &[u8], c: &[u8], d: &[u8]) -> FourPa
     ensures { AllReached a.now b.now c.now d.now result.at result.states × (from.at ≤ result.at) }
 {
     let mut states = from.states;
+    // The place is that of four slices at once, and it is handed on.
     let mut at = from.at;
     if eight_at(a, at) != 0 {
         return from;
@@ -234,7 +198,8 @@ fn past_zeros(from: FourParts, a: &[u8], b: &[u8], c: &[u8], d: &[u8]) -> FourPa
         if any_at(a, b, c, d, at) != 0 {
             return FourParts { states, at };
         }
-        states = four_zeros(states);
+        let mixed = four_zeros(states);
+        states = mixed;
         at += 8;
     }
     FourParts { states, at }
@@ -267,16 +232,11 @@ fn hash_four_words(a: &[u8], b: &[u8], c: &[u8], d: &[u8]) -> FourParts
     requires { OneLength a.now b.now c.now d.now }
     ensures { AllReached a.now b.now c.now d.now result.at result.states }
 {
-    let start = FourHashes {
-        a: 2166136261,
-        b: 2166136261,
-        c: 2166136261,
-        d: 2166136261,
-    };
     let mut parts = FourParts {
-        states: start,
+        states: [2166136261; 4],
         at: 0,
     };
+    // A step is as many words as are zeros, and one more.
     while 8 <= a.len() - parts.at {
         parts = next_words(parts, a, b, c, d);
     }
@@ -284,9 +244,9 @@ fn hash_four_words(a: &[u8], b: &[u8], c: &[u8], d: &[u8]) -> FourParts
 }
 
 // The hashes of four slices of one length.
-pub fn hash_four(a: &[u8], b: &[u8], c: &[u8], d: &[u8]) -> FourHashes
+pub fn hash_four(a: &[u8], b: &[u8], c: &[u8], d: &[u8]) -> [u32; 4]
     requires { (length b.now ≡ length a.now) × (length c.now ≡ length a.now) × (length d.now ≡ length a.now) }
-    ensures { (result.a ≡ fnv1a a.now) × (result.b ≡ fnv1a b.now) × (result.c ≡ fnv1a c.now) × (result.d ≡ fnv1a d.now) }
+    ensures { (slice_index result 0 ≡ fnv1a a.now) × (slice_index result 1 ≡ fnv1a b.now) × (slice_index result 2 ≡ fnv1a c.now) × (slice_index result 3 ≡ fnv1a d.now) }
 {
     let parts = hash_four_words(a, b, c, d);
     let at = parts.at;

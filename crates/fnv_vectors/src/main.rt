@@ -3,17 +3,14 @@
 
 use std::io;
 
-fn print_vector(rt: &impl Print, text: &[u8]) -> io::Result<()> {
-    rt.write_all(b"\"")?;
-    rt.write_all(text)?;
-    let hash = fnv::hash(text);
-    println!(rt; "\" {hash:08x}")
+fn print_vector(rt: &impl Print, text: &str) -> io::Result<()> {
+    let hash = fnv::hash(text.as_bytes());
+    println!(rt; "\"{text}\" {hash:08x}")
 }
 
 fn main(rt: HostRuntime) -> io::Result<()> {
-    print_vector(&rt, b"")?;
-    print_vector(&rt, b"a")?;
-    print_vector(&rt, b"b")?;
-    print_vector(&rt, b"c")?;
-    print_vector(&rt, b"foobar")
+    for text in ["", "a", "b", "c", "foobar"] {
+        print_vector(&rt, text)?;
+    }
+    Ok(())
 }

@@ -1,7 +1,7 @@
 -- What the methods' stores do to the lines that the words hold, and that a set's words are those of its lines.
 -- Assumes nothing.
 use mathlib.Core.Bool.{Bool, true, false, cond, ◌&&◌, ◌||◌, and-false}
-use mathlib.Core.List.{List}
+use mathlib.Core.List.{List, [], ◌∷◌}
 use mathlib.Core.Logic.{by_cases}
 use mathlib.Core.Path.{◌≡◌, refl, sym, ap, ◌∙◌}
 use Prim.Native.Nat.{ℕ, zero, suc, ◌+◌, ◌*◌, ◌/◌, ◌%◌, ◌^◌, ◌≤◌, ◌<◌}
@@ -15,9 +15,12 @@ use lib.Count.{ones}
 use lib.Dec.{eqb, ltb}
 use lib.ListN.{length, get_or, set, replicate, length-set}
 use lib.Seq.{get_or-set_same, get_or-set_other}
-use Rattle.model.specs.Sets.{Lines, count_below, digit, words, in_words}
-use Rattle.model.proofs.Digits.{digit-of-zero, digit_or, digit-shl, count_add, count-agree, count_ones}
-use Rattle.model.proofs.Sets.{Eight, in-word, in-eight-above, words-in, words-agree}
+use Rattle.std.specs.Prelude.{sum_by}
+use Rattle.std.proofs.lemmas.List.Sums.{sum_by-cons}
+use Rattle.model.specs.Sets.{Lines, size, digit, words, in_words}
+use Rattle.model.specs.Laws.{one_bits}
+use Rattle.model.proofs.Digits.{digit-of-zero, digit_or, digit-shl, count-le}
+use Rattle.model.proofs.Sets.{Eight, in-eight-above, words-in, words-agree, size-is-ones}
 use Rattle.lineset.specs.Members.{members}
 use Rattle.lineset.specs.declared.LineSet.{LineSet}
 
@@ -114,13 +117,18 @@ in-with ws line w rs e l j d = by_cases (dec_lt d 512) below above
         (rw (in-eight-above ws e d (omega arith))
         (by_cases (ℕ_discrete d line) (λ q. rw (le-ltb line 512 (omega arith)) refl) (λ n. rw (ne_eqb d line n) (and-false (ltb line 512)))))
 
--- ---- the lines of one word counted
+-- ---- the lines counted
 
-pub count_word : (ws : List ℕ) (w : ℕ) → get_or ws w 0 < 2 ^ 64
-    → count_below ((w + 1) * 64) (in_words ws) ≡ count_below (w * 64) (in_words ws) + ones (get_or ws w 0)
-count_word ws w h =
-    let e : (w + 1) * 64 ≡ w * 64 + 64 = omega arith in
-    rw (e, count_add, count-agree 64 (in-word ws w), ← count_ones 64 (get_or ws w 0) h)
+one_bits-sum : (ws : List ℕ) → one_bits ws ≡ sum_by ones ws
+unfolding one_bits
+one_bits-sum [] = refl
+one_bits-sum (w ∷ ws) = ap (λ (n : ℕ). ones w + n) (one_bits-sum ws) ∙ sym (sum_by-cons ones w ws)
+
+pub size-words : (ws : List ℕ) → Eight ws → size (in_words ws) ≡ sum_by ones ws
+size-words ws e = size-is-ones (in_words ws) ∙ rw (words-in e) (one_bits-sum ws)
+
+pub ones-fit : (ws : List ℕ) → Eight ws → sum_by ones ws < 2 ^ 32
+ones-fit ws e = omega (arith, size-words ws e, count-le 512 (in_words ws))
 
 -- a set's words are those of its members
 pub set_words : (f : Lines) (s : LineSet) → Eight s.words → ((d : ℕ) → d < 512 → members s d ≡ f d) → s.words ≡ words f

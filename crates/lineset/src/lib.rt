@@ -23,17 +23,18 @@ impl LineSet {
     {
         let bit = 1 << (line & 63);
         let word = line >> 6;
-        for w in 0..8 {
-            self.words[w] = self.words[w] | bit_in(w, word, bit);
+        for (w, own) in self.words.iter_mut().enumerate() {
+            *own |= bit_in(w, word, bit);
         }
         self
     }
 
+    // This and the next differ in their operator alone; to pass it as a closure would take more lines than the loop.
     pub fn union(mut self, other: LineSet) -> Self
         ensures { (d : ℕ) → members result d ≡ (members self d || members other d) }
     {
-        for w in 0..8 {
-            self.words[w] = self.words[w] | other.words[w];
+        for (w, word) in self.words.iter_mut().enumerate() {
+            *word |= other.words[w];
         }
         self
     }
@@ -41,8 +42,8 @@ impl LineSet {
     pub fn common(mut self, other: LineSet) -> Self
         ensures { (d : ℕ) → members result d ≡ (members self d && members other d) }
     {
-        for w in 0..8 {
-            self.words[w] = self.words[w] & other.words[w];
+        for (w, word) in self.words.iter_mut().enumerate() {
+            *word &= other.words[w];
         }
         self
     }
@@ -61,11 +62,7 @@ impl LineSet {
     pub fn size(self) -> u32
         ensures { result ≡ size (members self) }
     {
-        let mut n = 0;
-        for i in 0..8 {
-            n += u64::count_ones(self.words[i]);
-        }
-        n
+        self.words.iter().map(|word| word.count_ones()).sum()
     }
 }
 

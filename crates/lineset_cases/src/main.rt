@@ -10,16 +10,9 @@ fn mark(yes: bool) -> u8 {
 
 // The lines 44, 300, 448, 511 and 512, and the size.
 fn show(rt: &impl Print, set: LineSet, size: u32) -> io::Result<()> {
-    let marks = [
-        mark(set.contains(44)),
-        mark(set.contains(300)),
-        mark(set.contains(448)),
-        mark(set.contains(511)),
-        mark(set.contains(512)),
-        mark(set.size() == size),
-        b'\n',
-    ];
-    rt.write_all(&marks)
+    let lines = [44, 300, 448, 511, 512].map(|line| mark(set.contains(line)));
+    rt.write_all(&lines)?;
+    rt.write_all(&[mark(set.size() == size), b'\n'])
 }
 
 fn main(rt: HostRuntime) -> io::Result<()> {

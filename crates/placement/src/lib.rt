@@ -5,7 +5,7 @@
 ghost use Rattle.std.specs.Prelude.{◌≡◌, ◌^◌, ◌<◌, ◌≤◌};
 ghost use Rattle.placement.specs.Rows.{none, Tries, Rising, Followed};
 
-// The mark of an edge from which no list leads to the end.
+// The mark of an edge from which no list leads to the end. It is a number and no Option, which would double the arrays of costs.
 pub const NONE: u64 = 18446744073709551615;
 
 // At an edge: the least cost from it to the end, or NONE; the next edge on the way; and the sum of the tallies on it, modulo 2^64.
@@ -16,7 +16,7 @@ pub struct Choice {
     pub tally: u64,
 }
 
-// A list of points; those beyond the count are zero.
+// A list of points; those beyond the count are zero. A count beside an array is document 01's form for a plan, and there is no heap.
 #[derive(Clone, Copy)]
 pub struct Points {
     pub count: usize,
@@ -54,13 +54,8 @@ impl Choice {
             return self;
         }
         let most = self.cost - rest;
-        if most <= cost {
-            if b < n {
-                return self;
-            }
-            if most < cost {
-                return self;
-            }
+        if most < cost || most == cost && b < n {
+            return self;
         }
         let sum = cost + rest;
         Choice {
@@ -79,6 +74,7 @@ pub fn follow(nexts: &[usize; 65], n: usize) -> Points
     let mut points = [0u16; 64];
     let mut count = 0;
     let mut at = nexts[0];
+    // The edge is no index that is counted: each names the next.
     while at < n {
         points[count] = at as u16;
         count += 1;

@@ -38,13 +38,11 @@ fn choose(costs: &[u64; 65], times: &[u64; 65], a: usize) -> Choice
     let row = costs_from(a);
     let mut choice = Choice::untried(6);
     let mut time = 0;
-    let mut b = a;
-    while b < 6 {
+    for b in a..6 {
         time += wide(TIMES[b]);
         let cost = wide(row[b]);
-        b += 1;
         if time + cost <= LIMIT {
-            choice = choice.with(costs, times, 6, b, cost, time);
+            choice = choice.with(costs, times, 6, b + 1, cost, time);
         }
     }
     choice
@@ -71,9 +69,7 @@ fn main(rt: HostRuntime) -> io::Result<()> {
     let mut costs = [0u64; 65];
     let mut nexts = [0usize; 65];
     let mut times = [0u64; 65];
-    let mut a = 6;
-    while 0 < a {
-        a -= 1;
+    for a in (0..6).rev() {
         let choice = choose(&costs, &times, a);
         costs[a] = choice.cost;
         nexts[a] = choice.next;

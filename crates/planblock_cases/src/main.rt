@@ -123,8 +123,8 @@ fn round_trip(plan: Plan) -> Plan
 
 fn one_to_63() -> [u16; 64] {
     let mut points = [0u16; 64];
-    for i in 0..63 {
-        points[i] = i as u16 + 1;
+    for (point, n) in points.iter_mut().zip(1..64) {
+        *point = n;
     }
     points
 }

@@ -19,25 +19,11 @@ fn print_answer(rt: &impl Print, numbers: [u32; 6], out: &mut [u8]) -> io::Resul
     }
 }
 
-fn print_number(rt: &impl Print, name: &[u8], n: u32) -> io::Result<()> {
-    desk::print_field(rt, name, n as u64)
-}
-
-fn print_numbers(rt: &impl Print, numbers: [u32; 6]) -> io::Result<()> {
-    print_number(rt, b"seed ", numbers[0])?;
-    print_number(rt, b" blocks ", numbers[1])?;
-    print_number(rt, b" preempters ", numbers[2])?;
-    print_number(rt, b" lines ", numbers[3])?;
-    print_number(rt, b" limit ", numbers[4])?;
-    print_number(rt, b" reload ", numbers[5])
-}
-
 fn print_case(rt: &impl Print, numbers: [u32; 6], length: usize) -> io::Result<()>
     requires { length ≤ 65536 }
 {
-    print_numbers(rt, numbers)?;
-    desk::print_field(rt, b" bytes ", length as u64)?;
-    desk::print(rt, b": ")?;
+    let [seed, blocks, preempters, lines, limit, reload] = numbers;
+    print!(rt; "seed {seed} blocks {blocks} preempters {preempters} lines {lines} limit {limit} reload {reload} bytes {length}: ")?;
     let mut out = [0u8; 65536];
     print_answer(rt, numbers, &mut out[..length])
 }

@@ -93,16 +93,13 @@ fn copy_blocks(out: &mut [u8], k: usize, source: &[u8])
     requires { (length source.now % 512 ≡ 0) × (512 * (1 + k) + length source.now ≤ length out.old) × (length out.old ≤ 49664) }
     ensures { Appended k (copies source.now) out.old out.new }
 {
-    let count = source.len() / 512;
-    let mut i = 0;
-    while i < count {
+    for i in 0..source.len() / 512 {
         let from = i * 512;
         let to = from + 512;
         let number = 1 + k + i;
         let start = number * 512;
         let end = start + 512;
         copy_block(&mut out[start..end], &source[from..to], number as u32);
-        i += 1;
     }
 }
 

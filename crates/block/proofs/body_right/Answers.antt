@@ -3,7 +3,7 @@ use mathlib.Core.Path.{◌≡◌}
 use mathlib.Core.Bool.{◌&&◌}
 use lib.Dec.{eqb}
 use lib.ListN.{get_or}
-use borrow.Author.Tests.{eq-eqb, ne_eqb}
+use borrow.Author.Rules.{rules}
 use Rattle.block.specs.Bytes.{AllBytes, field, zeros_between}
 use Rattle.block.specs.Blocks.{body_right, framed}
 use Rattle.block.proofs.Blocks.{body-frame}
@@ -20,29 +20,12 @@ tests c h =
     body-frame args.number args.kind c.args.byte_1 args.end args.block.now h
     c.requires.block_len c.requires.le_end.0 c.requires.le_end.1 c.ranges.kind.fits c.ranges.byte_1.fits c.ranges.number.fits
 
-pub returns-then-block-kind : goal.returns-then-block-kind
-returns-then-block-kind c = rw (tests (goal.at.returns-then-block-kind c).Start (λ i _. (c.type_inv.block i).fits), ne_eqb _ _ c.if-block-kind.true)
+pub returns-then-zero_between : goal.returns-then-zero_between
+returns-then-zero_between c =
+    let whole = tests (goal.at.returns-then-zero_between c).Start (λ i _. (c.type_inv.block i).fits) in
+    rw whole (search rules)
 
-pub returns-then-block-byte_1 : goal.returns-then-block-byte_1
-returns-then-block-byte_1 c = rw (tests (goal.at.returns-then-block-byte_1 c).Start (λ i _. (c.type_inv.block i).fits), eq-eqb _ _ c.if-block-kind.false, ne_eqb _ _ c.if-block-byte_1.true)
-
-pub returns-then-not-zero_between : goal.returns-then-not-zero_between
-returns-then-not-zero_between c =
-    rw (
-      tests (goal.at.returns-then-not-zero_between c).Start (λ i _. (c.type_inv.block i).fits),
-      eq-eqb _ _ c.if-block-kind.false,
-      eq-eqb _ _ c.if-block-byte_1.false,
-      ← c.zero_between.ensures,
-      c.if-not-zero_between.true,
-    )
-
-pub returns : goal.returns
-returns c =
-    rw (
-      tests (goal.at.returns c).Start (λ i _. (c.type_inv.block i).fits),
-      eq-eqb _ _ c.if-block-kind.false,
-      eq-eqb _ _ c.if-block-byte_1.false,
-      ← c.zero_between.ensures,
-      c.if-not-zero_between.false,
-      c.u32_at.ensures,
-    )
+pub returns-else-zero_between : goal.returns-else-zero_between
+returns-else-zero_between c =
+    let whole = tests (goal.at.returns-else-zero_between c).Start (λ i _. (c.type_inv.block i).fits) in
+    rw whole (search rules)

@@ -1,10 +1,8 @@
--- `block::put_u64` meets its contract: its low half and then its high half are stored.
-use native.Mathlib.Omega.{arith}
-use Rattle.block.proofs.Bytes.{put-halves}
+-- `block::put_u64` meets its contract: the library's bytes are the number's.
+use mathlib.Core.Path.{◌∙◌}
+use Rattle.block.proofs.Bytes.{bytes-le-all, put-part}
 use Rattle.block.proofs.put_u64.Goals as goal
 
 pub returns : goal.returns
 returns c =
-    let args = c.args in
-    put-halves 4 args.bytes.now c.put_u32.new.bytes c.put_u32-2.new.bytes args.at args.v (omega arith)
-    c.put_u32.ensures c.put_u32-2.ensures
+    put-part c.args.at 8 c.args.bytes.now _ _ (c.copy_from_slice.ensures.after ∙ c.to_le_bytes.ensures ∙ bytes-le-all 8 c.args.v)

@@ -1,6 +1,6 @@
 -- `block::seal_few` meets its contract. The loop's invariant: the first `k` blocks have their checksums.
-use Prim.Native.Nat.{◌+◌, ◌-◌, ◌*◌}
-use mathlib.Core.Path.{refl, ◌∙◌}
+use Prim.Native.Nat.{◌+◌, ◌-◌, ◌*◌, ◌%◌}
+use mathlib.Core.Path.{◌≡◌, refl, ◌∙◌}
 use native.Mathlib.Omega.{arith}
 use lib.ListN.{length-take, length-drop}
 use borrow.Author.Rules.{rules}
@@ -25,4 +25,6 @@ loop-k-preserved c =
     )
 
 pub returns : goal.returns
-returns c = (c.loop-k.invariant.3, omega arith)
+returns c =
+    let all : c.loop-k.k ≡ c.args.count % 4 = omega arith in
+    (rw all at c.loop-k.invariant.3, omega arith)

@@ -13,22 +13,22 @@ pub returns-then-text-eq0 : goal.returns-then-text-eq0
 unfolding decimal_of
 returns-then-text-eq0 c = let none : length c.args.text.now ≤ 0 = omega arith in simp (le-ltb _ _ none)
 
-pub loop-i-init : goal.loop-i-init
-loop-i-init c = (omega arith, omega arith, from_zero _ (omega arith))
+pub loop-byte-init : goal.loop-byte-init
+loop-byte-init c = (omega arith, from_zero _ (omega arith))
 
-pub returns-in_default : goal.returns-in_default
-returns-in_default c =
+pub returns-in_err-n : goal.returns-in_err-n
+returns-in_err-n c =
     let text = c.args.text.now in
-    let none = sym c.with_digit.ensures ∙ c.in_default.is in
-    sym (c.loop-i.invariant.2 ∙ next-byte text c.loop-i.i c.loop-i.n none c.loop-i-test.true)
+    let none = sym c.with_digit.ensures ∙ c.in_err-n.was in
+    c.from_residual.ensures ∙ sym (c.loop-byte.invariant.1 ∙ next-byte text c.loop-byte.byte-index c.loop-byte.n none c.loop-byte-test.true)
 
-pub loop-i-preserved : goal.loop-i-preserved
-loop-i-preserved c =
+pub loop-byte-preserved : goal.loop-byte-preserved
+loop-byte-preserved c =
     let text = c.args.text.now in
-    let more = sym c.with_digit.ensures ∙ c.in-Some.is in
-    (omega arith, search rules, c.loop-i.invariant.2 ∙ next-byte text c.loop-i.i c.loop-i.n more c.loop-i-test.true)
+    let more = sym c.with_digit.ensures ∙ c.in_ok-n.was in
+    (search rules, c.loop-byte.invariant.1 ∙ next-byte text c.loop-byte.byte-index c.loop-byte.n more c.loop-byte-test.true)
 
 pub returns : goal.returns
 returns c =
     let text = c.args.text.now in
-    sym (c.loop-i.invariant.2 ∙ rw (drop_of_length-le text c.loop-i-test.false) (none_left _ c.loop-i.invariant.1))
+    sym (c.loop-byte.invariant.1 ∙ rw (drop_of_length-le text c.loop-byte-test.false) (none_left _ c.loop-byte.invariant.0))

@@ -1,29 +1,27 @@
--- `decimals::with_digit` meets its contract: the number is too large exactly where it is above a tenth of what is left of the largest.
+-- `decimals::with_digit` meets its contract: where ten times the number does not fit, neither does the digit more.
 use Prim.Native.Nat.{◌+◌, ◌-◌, ◌*◌, ◌^◌, ◌≤◌, ◌<◌}
 use mathlib.Core.Bool.{and-false}
+use mathlib.Core.Path.{sym, ◌∙◌}
 use native.Mathlib.Omega.{arith}
-use borrow.Author.Tests.{lt-leb, le-leb, lt-ltb, le-ltb}
+use borrow.Author.Tests.{lt-leb, le-ltb}
 use Rattle.decimals.specs.Decimals.{with_digit}
+use Rattle.decimals.proofs.Decimals.{digit-added}
 use Rattle.decimals.proofs.with_digit.Goals as goal
 
-pub returns-then-byte-lt48 : goal.returns-then-byte-lt48
+pub returns-in_err-checked_mul-in-48-to-57 : goal.returns-in_err-checked_mul-in-48-to-57
 unfolding with_digit
-returns-then-byte-lt48 c = let small : c.args.byte < 48 = omega arith in simp (lt-leb _ _ small)
+returns-in_err-checked_mul-in-48-to-57 c =
+    let large : 2 ^ 64 ≤ c.args.n * 10 + (c.args.byte - 48) = omega (arith, c.in_err-checked_mul-in-48-to-57.ensures) in
+    c.from_residual.ensures ∙ sym (simp (le-ltb _ _ large, and-false))
 
-pub returns-then-byte-gt57 : goal.returns-then-byte-gt57
-unfolding with_digit
-returns-then-byte-gt57 c = let large : 57 < c.args.byte = omega arith in simp (lt-leb _ _ large, and-false)
+pub returns-in_ok-checked_mul-in-48-to-57 : goal.returns-in_ok-checked_mul-in-48-to-57
+returns-in_ok-checked_mul-in-48-to-57 c =
+    digit-added _ c.args.n c.args.byte (omega arith) (omega arith) (rw (c.in_ok-checked_mul-in-48-to-57.ensures).1 at c.checked_add.ensures)
 
-pub returns-then-digit-n : goal.returns-then-digit-n
+pub returns-in_default : goal.returns-in_default
 unfolding with_digit
-returns-then-digit-n c =
-    let large : 2 ^ 64 ≤ c.args.n * 10 + (c.args.byte - 48) = omega arith in
-    simp (le-ltb _ _ large, and-false)
+returns-in_default c = let small : c.args.byte < 48 = omega arith in simp (lt-leb _ _ small)
 
-pub returns : goal.returns
+pub returns-in_default-2 : goal.returns-in_default-2
 unfolding with_digit
-returns c =
-    let least : 48 ≤ c.args.byte = omega arith in
-    let most : c.args.byte ≤ 57 = omega arith in
-    let fits : c.args.n * 10 + (c.args.byte - 48) < 2 ^ 64 = omega arith in
-    simp (le-leb _ _ least, le-leb _ _ most, lt-ltb _ _ fits)
+returns-in_default-2 c = let large : 57 < c.args.byte = omega arith in simp (lt-leb _ _ large, and-false)

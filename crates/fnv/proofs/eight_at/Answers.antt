@@ -1,11 +1,6 @@
--- `fnv::eight_at` meets its contract: four bytes and 2^32 times four others.
-use native.Mathlib.Omega.{arith}
-use Rattle.fnv.proofs.Zeros.{twice-zero}
+-- `fnv::eight_at` meets its contract: no byte adds to a sum that is 0.
+use Rattle.fnv.proofs.Zeros.{word-zero}
 use Rattle.fnv.proofs.eight_at.Goals as goal
 
 pub returns : goal.returns
-returns c =
-    let low = c.four_at in
-    let high = c.four_at-2 in
-    let args = c.args in
-    twice-zero 4 args.bytes.now args.at _ _ _ low.ensures.0 high.ensures.0 (λ none. omega arith) (λ none. omega arith)
+returns c = word-zero c.args.bytes.now c.args.at _ c.from_le_bytes.ensures

@@ -12,7 +12,7 @@ returns-then-pair_at-ne0 c = c.loop-at.invariant
 pub loop-at-preserved : goal.loop-at-preserved
 loop-at-preserved c =
     let inv = c.loop-at.invariant in
-    (chain-zeros 16 inv.0 c.sixteen_zeros-state.ensures (omega arith) (c.pair_at.ensures (omega arith)), omega arith)
+    (chain-zeros 16 inv.0 c.mixed_zeros-state.ensures (omega arith) (c.pair_at.ensures (omega arith)), omega arith)
 
 pub returns : goal.returns
 returns c = c.loop-at.invariant

@@ -11,7 +11,7 @@ loop-at-preserved c =
     let inv = c.loop-at.invariant in
     let reached = inv.0 in
     let lengths = inv.1 in
-    let mixed = c.four_zeros-states.ensures in (
+    let mixed = c.four_zeros-mixed.ensures in (
       record {
         first = chain-zeros 8 reached.first mixed.first (omega arith) (zeros.0 none);
         second = chain-zeros 8 reached.second mixed.second (omega arith) (zeros.1 none);

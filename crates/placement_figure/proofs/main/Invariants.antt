@@ -11,6 +11,3 @@ pub record Upward (nexts : List ℕ) (a : ℕ) : Type 0 where
 
 abbrev pub invariant-loop-a : goal.invariant-loop-a
 invariant-loop-a l = Upward l.nexts l.a
-
-abbrev pub decreases-loop-a : goal.decreases-loop-a
-decreases-loop-a l = l.a

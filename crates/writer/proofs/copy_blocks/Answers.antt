@@ -16,7 +16,7 @@ pub loop-i-init : goal.loop-i-init
 unfolding bodies
 loop-i-init c =
     let args = c.args in
-    (search rules, refl, appended-none args.k args.out.now)
+    (refl, appended-none args.k args.out.now)
 
 pub copy_block-requires : goal.copy_block-requires
 copy_block-requires c = (simp (length-take, length-drop) (omega arith), simp (length-take, length-drop) (omega arith))
@@ -32,10 +32,9 @@ loop-i-preserved c =
     let long : length c.copy_block.new.block ≡ 512 = c.copy_block.auto.block ∙ simp (length-take, length-drop) (omega arith) in
     let body = c.copy_block.ensures ∙ ap (numbered number) (body_at loop.i from (from + 512 - from) source (omega arith) (omega arith)) in (
       search rules,
-      search rules,
       rw (add-one, bodies-snoc loop.i source)
           (appended-more args.k start (start + 512 - start) (bodies loop.i source) (take 504 (drop (512 * loop.i) source)) args.out.now loop.out
-          c.copy_block.new.block (rw length-bodies (omega arith)) (omega arith) (omega arith) loop.invariant.2 (rw length-bodies body)),
+          c.copy_block.new.block (rw length-bodies (omega arith)) (omega arith) (omega arith) loop.invariant.1 (rw length-bodies body)),
     )
 
 pub returns : goal.returns
@@ -43,4 +42,4 @@ unfolding blocks_in
 returns c =
     let loop = c.loop-i in
     let all : loop.i ≡ length c.args.source.now / 512 = omega arith in
-    rw (← all) loop.invariant.2
+    rw (← all) loop.invariant.1

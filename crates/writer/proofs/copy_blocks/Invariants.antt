@@ -1,5 +1,4 @@
 -- `writer::copy_blocks` meets its contract. The loop's invariant: copies of the first `i` blocks are appended.
-use Prim.Native.Nat.{◌-◌, ◌/◌, ◌≤◌}
 use mathlib.Core.Path.{◌≡◌}
 use lib.ListN.{length}
 use Rattle.writer.specs.Writing.{Appended, bodies}
@@ -7,7 +6,4 @@ use Rattle.writer.proofs.copy_blocks.Given as goal
 
 abbrev pub invariant-loop-i : goal.invariant-loop-i
 invariant-loop-i l =
-    (l.i ≤ length l.source / 512) × (length l.out ≡ length l.initial.out) × Appended l.k (bodies l.i l.source) l.initial.out l.out
-
-abbrev pub decreases-loop-i : goal.decreases-loop-i
-decreases-loop-i l = length l.source / 512 - l.i
+    (length l.out ≡ length l.initial.out) × Appended l.k (bodies l.i l.source) l.initial.out l.out

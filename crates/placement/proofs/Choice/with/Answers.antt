@@ -3,7 +3,7 @@ use Rattle.std.proofs.Common.{◌≡◌, ℕ, ◌+◌, ◌%◌, ◌^◌, ◌<◌
 use Rattle.placement.specs.Rows.{Tries}
 use Rattle.placement.specs.declared.Choice.{Choice}
 use Rattle.placement.proofs.Choice.with.Goals as goal
-use Rattle.placement.proofs.Choice.with.Goals.{then-most-cost+else-b-n+else-most-cost-2, else-most-cost}
+use Rattle.placement.proofs.Choice.with.Goals.{then-most-cost-via-then-most-cost, then-most-cost-via-else-most-cost+then-b-n}
 
 module _ {costs tallies : List ℕ} {n b x y : ℕ} {c : Choice} (within : b ≤ n) (below : x < 2 ^ 56) where
   left : c.cost ≤ x + get_or costs b 0 → (n ≤ b → c.cost < x + get_or costs b 0) → Tries costs tallies n b x y c c
@@ -52,15 +52,14 @@ module _ {costs tallies : List ℕ} {n b x y : ℕ} {c : Choice} (within : b ≤
 pub returns-then-self-rest : goal.returns-then-self-rest
 returns-then-self-rest c = left c.requires.0 c.requires.2 (omega arith) (λ le. omega arith)
 
-pub returns-then-b-n : goal.returns-then-b-n
-returns-then-b-n c = left c.requires.0 c.requires.2 (omega arith) (λ le. omega arith)
-
-pub returns-then-most-cost-2 : goal.returns-then-most-cost-2
-returns-then-most-cost-2 c = left c.requires.0 c.requires.2 (omega arith) (λ le. omega arith)
+pub returns-then-most-cost : goal.returns-then-most-cost
+returns-then-most-cost c =
+    left c.requires.0 c.requires.2
+    (elim c.then-most-cost.branch [ then-most-cost-via-then-most-cost w ↦ omega arith | then-most-cost-via-else-most-cost+then-b-n w ↦ omega arith ])
+    (λ le. elim c.then-most-cost.branch [ then-most-cost-via-then-most-cost w ↦ omega arith | then-most-cost-via-else-most-cost+then-b-n w ↦ omega arith ])
 
 pub returns : goal.returns
 returns c =
-    taken c.requires.0 c.requires.2
-    (elim c.if-most-cost.branch [ then-most-cost+else-b-n+else-most-cost-2 w ↦ omega arith | else-most-cost w ↦ omega arith ])
-    (λ lt. elim c.if-most-cost.branch [ then-most-cost+else-b-n+else-most-cost-2 w ↦ omega arith | else-most-cost w ↦ omega arith ])
+    taken c.requires.0 c.requires.2 (omega arith)
+    (λ lt. ⊎_elim (λ e. omega arith) (λ e. omega arith) c.if-b-n.either)
     c.wrapping_add_u64.ensures.value

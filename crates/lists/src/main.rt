@@ -6,7 +6,7 @@ ghost use Rattle.std.specs.Prelude.{◌≡◌, ◌≤◌};
 ghost use Rattle.enumerating.specs.Table.{Small};
 ghost use Rattle.listing.specs.Calls.{list_verdict};
 
-use enumerating::Found;
+use enumerating::{Found, Region};
 use model::Verdict;
 use std::io;
 
@@ -25,20 +25,14 @@ fn collect_line(
 }
 
 // What the call finds from 0, and then from one above the last number.
-fn print_all(
-    rt: &impl Print,
-    fits: &[bool; 272],
-    lines: &[u32; 272],
-    costs: &[u64; 272],
-    blocks: usize,
-) -> io::Result<()>
-    requires { (1 ≤ blocks) × (blocks ≤ 16) × Small lines.now costs.now }
+fn print_all(rt: &impl Print, table: &[Region; 272], blocks: usize) -> io::Result<()>
+    requires { (1 ≤ blocks) × (blocks ≤ 16) × Small table.now }
 {
     let mut page = [0u8; 4096];
     let mut held = 0;
     let mut start = 0;
     loop {
-        let found = enumerating::next_fitting(fits, lines, costs, blocks, start);
+        let found = enumerating::next_fitting(table, blocks, start);
         let Found::Fitting(list) = found else {
             return desk::print_page(rt, &page, held);
         };
@@ -50,11 +44,8 @@ fn print_all(
 fn print_lists(rt: &impl Print, file: &[u8]) -> io::Result<()>
     requires { list_verdict file.now ≡ Verdict.Accepted }
 {
-    let mut fits = [false; 272];
-    let mut lines = [0u32; 272];
-    let mut costs = [0u64; 272];
-    enumerating::evaluate_regions(file, &mut fits, &mut lines, &mut costs);
-    print_all(rt, &fits, &lines, &costs, taskfile::block_count(file))
+    let table = enumerating::evaluate_regions(file);
+    print_all(rt, &table, taskfile::block_count(file))
 }
 
 fn print_answer(rt: &impl Print, file: &[u8]) -> io::Result<()> {

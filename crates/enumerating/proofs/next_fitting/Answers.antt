@@ -6,7 +6,7 @@ use native.Mathlib.Nat.{one-mul}
 use native.Mathlib.Omega.{arith}
 use lib.Dec.{lit<}
 use lib.Pow.{shl_exact}
-use Rattle.enumerating.specs.Table.{fit_in, number_in}
+use Rattle.enumerating.specs.Table.{fit_in, lines_in, cost_in}
 use Rattle.enumerating.proofs.Searching.{reached-start, reached-next, reached-list, reached-end}
 use Rattle.enumerating.proofs.next_fitting.Goals as goal
 
@@ -14,7 +14,7 @@ pub loop-number-init : goal.loop-number-init
 loop-number-init c =
     let args = c.args in (
       shl_exact 1 (args.blocks - 1) 64 (lit< tt) (omega arith) ∙ one-mul _,
-      reached-start (fit_in args.fits.now) (number_in args.lines.now) (number_in args.costs.now) args.blocks args.start,
+      reached-start (fit_in args.table.now) (lines_in args.table.now) (cost_in args.table.now) args.blocks args.start,
     )
 
 pub if_fitting-found-requires : goal.if_fitting-found-requires

@@ -86,14 +86,12 @@ fn points_of(number: u64, blocks: usize) -> Points
     let mut points = [0u16; 16];
     let mut count = 0;
     let mut bits = number;
-    let mut to = 1;
-    while to < blocks {
+    for to in 1..blocks {
         if bits % 2 == 1 {
             points[count] = to as u16;
             count += 1;
         }
         bits = bits / 2;
-        to += 1;
     }
     Points { count, points }
 }

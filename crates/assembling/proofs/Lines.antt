@@ -1,5 +1,6 @@
 -- A text read line by line: what the lines so far have come to, and what is left.
 -- Assumes nothing.
+use Rattle.std.specs.Prelude.{None, Some}
 use Prim.Native.Nat.{ℕ, ◌+◌, ◌≤◌, ◌<◌}
 use mathlib.Core.Path.{◌≡◌, refl, ◌∙◌}
 use mathlib.Core.Bool.{true, false}
@@ -7,7 +8,6 @@ use mathlib.Core.List.{List, [], ◌∷◌}
 use native.Mathlib.Numerals.{add-one}
 use native.Mathlib.Omega.{arith}
 use lib.ListN.{length, drop, drop_of_length-le}
-use Rattle.model.specs.declared.Place.TheVariants.{Nowhere, At}
 use Rattle.block.specs.Blocks.{sealed_blocks}
 use Rattle.taskfile.specs.File.{whole_blocks}
 use Rattle.writer.specs.Writing.{Appended}
@@ -48,7 +48,7 @@ module _ {text file : List ℕ} {known : Known} {line at : ℕ} (s : ReadTo text
   first : lines_of (drop at text) ≡ between text at end ∷ lines_of (drop (end + 1) text)
   first = first-line text at end inside span
 
-  pub read-wrong : r.right ≡ false → wrong_in text ≡ At line
+  pub read-wrong : r.right ≡ false → wrong_in text ≡ Some line
   unfolding wrong_line
   read-wrong e = s.place ∙ rw (first, ← taken.right, e) refl
 
@@ -74,10 +74,10 @@ module _ {text file : List ℕ} {known : Known} {line at : ℕ} (s : ReadTo text
   unfolding drafted lines_of
   read_all = s.left ∙ rw no_line refl
 
-  pub read_whole : whole s.draft ≡ true → wrong_in text ≡ Nowhere
+  pub read_whole : whole s.draft ≡ true → wrong_in text ≡ None
   unfolding wrong_line lines_of
   read_whole e = s.place ∙ rw (no_line, e) refl
 
-  pub read_short : whole s.draft ≡ false → wrong_in text ≡ At line
+  pub read_short : whole s.draft ≡ false → wrong_in text ≡ Some line
   unfolding wrong_line lines_of
   read_short e = s.place ∙ rw (no_line, e) refl

@@ -1,5 +1,6 @@
 -- The numbers of a line's words: what a word says, and the words read so far.
 -- Assumes nothing.
+use Rattle.std.specs.Prelude.{None, Option, Some}
 use Prim.Native.Nat.{ℕ, suc, ◌+◌, ◌≤◌, ◌<◌}
 use mathlib.Core.Path.{◌≡◌, refl, sym, ap, ◌∙◌}
 use mathlib.Core.Bool.{Bool, true, false, cond, ◌&&◌, and-eq-true_iff, and-false, and_assoc, false≢true}
@@ -15,8 +16,6 @@ use lib.Seq.{take-suc-set, drop-cons}
 use Rattle.model.specs.Lists.{same_list}
 use Rattle.model.proofs.Lists.{same-list}
 use Rattle.decimals.specs.Decimals.{all_digits, value, decimal_of}
-use Rattle.decimals.specs.declared.Decimal.{Decimal}
-use Rattle.decimals.specs.declared.Decimal.TheVariants.{Number, Nothing}
 use Rattle.assembling.specs.Drafts.{is_number, all_numbers, header_words, header_word}
 use Rattle.assembling.specs.Words.{words_of}
 use Rattle.assembling.specs.declared.Word.{Word}
@@ -24,56 +23,56 @@ use Rattle.assembling.specs.Steps.{number_in, FirstWord, NumbersRead}
 
 -- a word that says a number of 64 bits says it here too if it is small enough
 
-said : (w : List ℕ) (n : ℕ) → decimal_of w ≡ Number n → ((ltb 0 (length w) && all_digits w) ≡ true) × (value w ≡ n)
+said : (w : List ℕ) (n : ℕ) → decimal_of w ≡ Some n → ((ltb 0 (length w) && all_digits w) ≡ true) × (value w ≡ n)
 unfolding decimal_of
 said w n e = go (ltb 0 (length w) && all_digits w) (ltb (value w) 18446744073709551616) e
   where
-    go : (x y : Bool) → cond (x && y) (Number (value w)) Nothing ≡ Number n → (x ≡ true) × (value w ≡ n)
+    go : (x y : Bool) → cond (x && y) (Some (value w)) None ≡ Some n → (x ≡ true) × (value w ≡ n)
     go true true e = (refl, cc)
     go true false e = let z : ◌≡◌ {A = ℕ} 0 1 = cc in absurd (omega arith)
     go false y e = let z : ◌≡◌ {A = ℕ} 0 1 = cc in absurd (omega arith)
 
-pub number-right : (w : List ℕ) (n : ℕ) → Number n ≡ decimal_of w → n ≤ 4294967295 → Number n ≡ number_in w
+pub number-right : (w : List ℕ) (n : ℕ) → Some n ≡ decimal_of w → n ≤ 4294967295 → Some n ≡ number_in w
 unfolding number_in is_number
 number-right w n e h =
     let s = said w n (sym e) in
     let both = (and-eq-true_iff (ltb 0 (length w)) (all_digits w)).0 s.0 in
     rw (both.0, both.1, s.1, le-leb n 4294967295 h) refl
 
-pub number-large : (w : List ℕ) (n : ℕ) → Number n ≡ decimal_of w → 4294967295 < n → Nothing ≡ number_in w
+pub number-large : (w : List ℕ) (n : ℕ) → Some n ≡ decimal_of w → 4294967295 < n → None ≡ number_in w
 unfolding number_in is_number
 number-large w n e h =
     let s = said w n (sym e) in
     let both = (and-eq-true_iff (ltb 0 (length w)) (all_digits w)).0 s.0 in
     rw (both.0, both.1, s.1, lt-leb n 4294967295 h) refl
 
-pub number-none : (w : List ℕ) → decimal_of w ≡ Nothing → number_in w ≡ Nothing
+pub number-none : (w : List ℕ) → decimal_of w ≡ None → number_in w ≡ None
 unfolding decimal_of number_in is_number
 number-none w e = by_cases (dec_le (value w) 4294967295) small (λ h. large (ltb 0 (length w)) (all_digits w) (lt-leb (value w) 4294967295 (omega arith)))
   where
-    large : (a b : Bool) → leb (value w) 4294967295 ≡ false → cond (a && (b && leb (value w) 4294967295)) (Number (value w)) Nothing ≡ Nothing
+    large : (a b : Bool) → leb (value w) 4294967295 ≡ false → cond (a && (b && leb (value w) 4294967295)) (Some (value w)) None ≡ None
     large a true h = rw (h, and-false)
     large a false h = rw and-false
 
-    go : (a b : Bool) → cond ((a && b) && true) (Number (value w)) Nothing ≡ Nothing → cond (a && (b && true)) (Number (value w)) Nothing ≡ Nothing
+    go : (a b : Bool) → cond ((a && b) && true) (Some (value w)) None ≡ None → cond (a && (b && true)) (Some (value w)) None ≡ None
     go true true e = e
     go true false e = refl
     go false b e = refl
 
-    small : value w ≤ 4294967295 → cond (ltb 0 (length w) && (all_digits w && leb (value w) 4294967295)) (Number (value w)) Nothing ≡ Nothing
+    small : value w ≤ 4294967295 → cond (ltb 0 (length w) && (all_digits w && leb (value w) 4294967295)) (Some (value w)) None ≡ None
     small h = rw (le-leb (value w) 4294967295 h) (go (ltb 0 (length w)) (all_digits w) (rw (lt-ltb (value w) 18446744073709551616 (omega arith)) at e))
 
 -- the number, if it is small enough
-abbrev pub small_only : Decimal → Decimal
-small_only (Number n) = cond (leb n 4294967295) (Number n) Nothing
-small_only Nothing = Nothing
+abbrev pub small_only : Option ℕ → Option ℕ
+small_only (Some n) = cond (leb n 4294967295) (Some n) None
+small_only None = None
 
 pub number_is : (w : List ℕ) → number_in w ≡ small_only (decimal_of w)
 number_is w = go (decimal_of w) refl
   where
-    go : (d : Decimal) → d ≡ decimal_of w → number_in w ≡ small_only d
-    go (Number n) e = by_cases (dec_le n 4294967295) (λ h. rw (le-leb n 4294967295 h) (sym (number-right w n e h))) (λ h. rw (lt-leb n 4294967295 (omega arith)) (sym (number-large w n e (omega arith))))
-    go Nothing e = number-none w (sym e)
+    go : (d : Option ℕ) → d ≡ decimal_of w → number_in w ≡ small_only d
+    go (Some n) e = by_cases (dec_le n 4294967295) (λ h. rw (le-leb n 4294967295 h) (sym (number-right w n e h))) (λ h. rw (lt-leb n 4294967295 (omega arith)) (sym (number-large w n e (omega arith))))
+    go None e = number-none w (sym e)
 
 -- the words read so far, all numbers, whose values stand in an array, and those that are left
 pub record Seen (words left : List (List ℕ)) (numbers : List ℕ) (count : ℕ) : Type 0 where
@@ -99,16 +98,16 @@ map-append [] ys = refl
 map-append (x ∷ xs) ys = ap (λ (l : List ℕ). value x ∷ l) (map-append xs ys)
 
 -- a word that says a number is one
-said-number : (w : List ℕ) (n : ℕ) → number_in w ≡ Number n → (is_number w ≡ true) × (value w ≡ n)
+said-number : (w : List ℕ) (n : ℕ) → number_in w ≡ Some n → (is_number w ≡ true) × (value w ≡ n)
 unfolding number_in
 said-number w n e = go (ltb 0 (length w)) (is_number w) e
   where
-    go : (a b : Bool) → cond (a && b) (Number (value w)) Nothing ≡ Number n → (b ≡ true) × (value w ≡ n)
+    go : (a b : Bool) → cond (a && b) (Some (value w)) None ≡ Some n → (b ≡ true) × (value w ≡ n)
     go true true e = (refl, cc)
     go true false e = let z : ◌≡◌ {A = ℕ} 0 1 = cc in absurd (omega arith)
     go false b e = let z : ◌≡◌ {A = ℕ} 0 1 = cc in absurd (omega arith)
 
-pub number_small : (w : List ℕ) (n : ℕ) → number_in w ≡ Number n → n ≤ 4294967295
+pub number_small : (w : List ℕ) (n : ℕ) → number_in w ≡ Some n → n ≤ 4294967295
 unfolding is_number
 number_small w n e =
     let is = said-number w n e in
@@ -116,15 +115,15 @@ number_small w n e =
     omega (arith, is.1)
 
 -- and one with a byte that says none is none
-said-none : (w : List ℕ) → 0 < length w → number_in w ≡ Nothing → is_number w ≡ false
+said-none : (w : List ℕ) → 0 < length w → number_in w ≡ None → is_number w ≡ false
 unfolding number_in
 said-none w h e = go (is_number w) (rw (lt-ltb 0 (length w) h) at e)
   where
-    go : (b : Bool) → cond b (Number (value w)) Nothing ≡ Nothing → b ≡ false
+    go : (b : Bool) → cond b (Some (value w)) None ≡ None → b ≡ false
     go true e = let z : ◌≡◌ {A = ℕ} 0 1 = cc in absurd (omega arith)
     go false e = refl
 
-pub seen_more : {words left : List (List ℕ)} {numbers : List ℕ} {count : ℕ} (w : List ℕ) (n : ℕ) → Seen words (w ∷ left) numbers count → number_in w ≡ Number n → count < 125
+pub seen_more : {words left : List (List ℕ)} {numbers : List ℕ} {count : ℕ} (w : List ℕ) (n : ℕ) → Seen words (w ∷ left) numbers count → number_in w ≡ Some n → count < 125
     → Seen words left (set numbers count n) (count + 1)
 unfolding all_numbers
 seen_more {words} {left} {numbers} {count} w n s e h =
@@ -156,7 +155,7 @@ refused : (words : List (List ℕ)) (numbers : List ℕ) (count : ℕ) → (all_
 refused words numbers count e h l =
     record { right = sym e; count = λ t. absurd (false≢true t); held = λ t. absurd (false≢true t); few = h; long = l }
 
-pub seen-wrong : {words left : List (List ℕ)} {numbers : List ℕ} {count : ℕ} (w : List ℕ) → 0 < length w → Seen words (w ∷ left) numbers count → number_in w ≡ Nothing
+pub seen-wrong : {words left : List (List ℕ)} {numbers : List ℕ} {count : ℕ} (w : List ℕ) → 0 < length w → Seen words (w ∷ left) numbers count → number_in w ≡ None
     → NumbersRead words numbers (record { right = false; count = count })
 unfolding all_numbers
 seen-wrong {words} {left} {numbers} {count} w h s e =

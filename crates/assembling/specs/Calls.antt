@@ -1,9 +1,7 @@
 -- What the calls answer, and what they leave in the lent output. Assumes nothing.
 use Rattle.std.specs.Prelude.{ℕ, List, ◌++◌, length, drop}
-use Rattle.model.specs.Answers.{on_accepted, refused_at, and_then, output_row}
+use Rattle.model.specs.Answers.{accept, Verdict, on_accepted, refused_at, and_then, output_row}
 use Rattle.model.specs.declared.Refusal.TheVariants.{WrongText}
-use Rattle.model.specs.declared.Verdict.{Verdict}
-use Rattle.model.specs.declared.Verdict.TheVariants.{Accepted}
 use Rattle.taskfile.specs.File.{file_of}
 use Rattle.assembling.specs.Drafts.{wrong_in, task_in}
 use Rattle.assembling.specs.declared.Made.{Made}
@@ -16,7 +14,7 @@ output_size = 49664
 
 -- the verdict: 9, and then 17 at the lowest line at which the text cannot go on, or at its end
 unfoldable pub assemble_verdict : List ℕ → List ℕ → Verdict
-assemble_verdict text out = and_then (output_row output_size (length out)) (refused_at (wrong_in text) WrongText Accepted)
+assemble_verdict text out = and_then (output_row output_size (length out)) (refused_at (wrong_in text) WrongText accept)
 
 -- the answer: the length of the file of the text's task, and 0 on a refusal
 unfoldable pub assemble_answer : List ℕ → List ℕ → Made

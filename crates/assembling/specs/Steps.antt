@@ -1,10 +1,8 @@
 -- What the steps of the reader leave to each other: places in a line, numbers in an array, and what is known behind a line. Assumes nothing.
-use Rattle.std.specs.Prelude.{ℕ, ◌-◌, ◌≤◌, ◌<◌, ◌≡◌, Bool, true, false, cond, ◌&&◌, List, [], ◌∷◌, ◌++◌, map, leb, ltb, length, get_or, take, drop}
+use Rattle.std.specs.Prelude.{ℕ, ◌-◌, ◌≤◌, ◌<◌, ◌≡◌, Bool, true, false, cond, ◌&&◌, List, [], ◌∷◌, ◌++◌, map, leb, ltb, length, get_or, take, drop, None, Option, Some}
 use Rattle.taskfile.specs.File.{basic_bytes, preempter_bytes}
 use Rattle.writer.specs.Writing.{Appended}
 use Rattle.decimals.specs.Decimals.{value}
-use Rattle.decimals.specs.declared.Decimal.{Decimal}
-use Rattle.decimals.specs.declared.Decimal.TheVariants.{Number, Nothing}
 use Rattle.assembling.specs.Words.{words_of}
 use Rattle.assembling.specs.Drafts.{Draft, is_number, all_numbers, takes, with_words, block_from, preempter_from}
 use Rattle.assembling.specs.declared.Kind.{Kind}
@@ -39,8 +37,8 @@ pub record FirstWord (line : List ℕ) (at : ℕ) (w : Word) : Type 0 where
   pub none : w.start ≡ w.end → words_of (drop at line) ≡ []
 
 -- the number that a word says, if it has a byte
-unfoldable pub number_in : List ℕ → Decimal
-number_in w = cond (ltb 0 (length w) && is_number w) (Number (value w)) Nothing
+unfoldable pub number_in : List ℕ → Option ℕ
+number_in w = cond (ltb 0 (length w) && is_number w) (Some (value w)) None
 
 -- at most 125 words that are all numbers, in an array
 pub record NumbersRead (words : List (List ℕ)) (numbers : List ℕ) (r : Numbers) : Type 0 where

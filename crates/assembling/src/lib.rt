@@ -13,8 +13,7 @@ ghost use Rattle.block.specs.Blocks.{numbered};
 ghost use Rattle.writer.specs.Writing.{stored_reads};
 ghost use Rattle.model.specs.Lists.{same_list};
 
-use decimals::Decimal;
-use model::{Header, Place, Refusal, Scratch, Verdict};
+use model::{Header, Refusal, Scratch};
 
 // A word of a line: its bytes from start up to end, none where there is no word.
 #[derive(Clone, Copy)]
@@ -110,16 +109,16 @@ fn next_word(line: &[u8], at: usize) -> Word
 
 // The number that a word says, if it is one: digits alone, at most 4294967295.
 #[tactic(auto, using(crate::proofs::Reading::number_is))]
-fn number_of(word: &[u8]) -> Decimal
+fn number_of(word: &[u8]) -> Option<u64>
     ensures { result ≡ number_in word.now }
 {
-    let Decimal::Number(n) = decimals::decimal_of(word) else {
-        return Decimal::Nothing;
+    let Some(n) = decimals::decimal_of(word) else {
+        return None;
     };
     if 4294967295 < n {
-        return Decimal::Nothing;
+        return None;
     }
-    Decimal::Number(n)
+    Some(n)
 }
 
 // The numbers of a line from a place on, in an array: how many there are, if all words are numbers and no more than there is room for.
@@ -143,7 +142,7 @@ fn read_numbers(line: &[u8], at: usize, numbers: &mut [u32; 125]) -> Numbers
         if start == end {
             return Numbers { right: true, count };
         }
-        let Decimal::Number(n) = number_of(&line[start..end]) else {
+        let Some(n) = number_of(&line[start..end]) else {
             return Numbers {
                 right: false,
                 count,
@@ -444,7 +443,7 @@ fn take_line(file: &mut [u8], known: Known, line: &[u8]) -> Taken
 // What a text says: its lowest wrong line, if any, and what is known behind its last.
 #[derive(Clone, Copy)]
 struct Outcome {
-    place: Place,
+    place: Option<usize>,
     known: Known,
 }
 
@@ -459,7 +458,7 @@ fn is_whole(known: Known) -> bool
 fn read_lines(file: &mut [u8], text: &[u8]) -> Outcome
     requires { length file.old ≡ 49664 }
     ensures place_value { result.place ≡ wrong_in text.now }
-    ensures knows { result.place ≡ Place.Nowhere → Knows (draft_in text.now) result.known × Stored (draft_in text.now) file.new }
+    ensures knows { result.place ≡ None → Knows (draft_in text.now) result.known × Stored (draft_in text.now) file.new }
     ensures blocks_bound { (result.known.blocks ≤ 64) × (result.known.preempters ≤ 32) }
 {
     let mut known = Known {
@@ -476,7 +475,7 @@ fn read_lines(file: &mut [u8], text: &[u8]) -> Outcome
         known = taken.known;
         if !taken.right {
             return Outcome {
-                place: Place::At(line),
+                place: Some(line),
                 known,
             };
         }
@@ -485,12 +484,12 @@ fn read_lines(file: &mut [u8], text: &[u8]) -> Outcome
     }
     if is_whole(known) {
         Outcome {
-            place: Place::Nowhere,
+            place: None,
             known,
         }
     } else {
         Outcome {
-            place: Place::At(line),
+            place: Some(line),
             known,
         }
     }
@@ -533,7 +532,7 @@ fn close(file: &mut [u8], known: Known) -> usize
 // What a call answers: the length of what it leaves beside the verdict, 0 where it refuses.
 #[derive(Clone, Copy)]
 pub struct Made {
-    pub verdict: Verdict,
+    pub verdict: Result<(), Refusal>,
     pub length: usize,
 }
 
@@ -544,23 +543,23 @@ pub fn assemble(text: &[u8], out: &mut [u8]) -> Made
     ensures out_after { out.new ≡ assemble_output text.now out.old }
 {
     let checked = answers::check_output(49664, out.len());
-    let Verdict::Accepted = checked else {
+    let Ok(()) = checked else {
         return refused(checked);
     };
     let mut file = [0u8; 49664];
     let outcome = read_lines(&mut file, text);
     let place = outcome.place;
     match place {
-        Place::At(line) => refused(Verdict::Refused(Refusal::WrongText(line))),
-        Place::Nowhere => Made {
-            verdict: Verdict::Accepted,
+        Some(line) => refused(Err(Refusal::WrongText(line))),
+        None => Made {
+            verdict: Ok(()),
             length: make(&mut file, outcome.known, out),
         },
     }
 }
 
 // What is answered with a refusal.
-fn refused(verdict: Verdict) -> Made
+fn refused(verdict: Result<(), Refusal>) -> Made
     ensures { result ≡ record { verdict = verdict; length = 0 } }
 {
     Made { verdict, length: 0 }

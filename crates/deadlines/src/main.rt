@@ -2,9 +2,7 @@
 // task: its execution time, period, deadline and longest region, decimal numbers with one space between.
 #![tactic(auto)]
 
-use decimals::Decimal;
 use demand::{Answer, Deadlines, TaskSet};
-use model::Verdict;
 use std::io;
 
 // A number above every range, which stands for all that are too large.
@@ -12,7 +10,7 @@ const TOO_LARGE: u32 = 16777216;
 
 // The number that a field says, or one that is too large in its place.
 fn field_number(field: &[u8]) -> Option<u32> {
-    let Decimal::Number(number) = decimals::capped_decimal(field, TOO_LARGE) else {
+    let Some(number) = decimals::capped_decimal(field, TOO_LARGE) else {
         return None;
     };
     Some(number as u32)
@@ -58,8 +56,8 @@ fn print_answer(rt: &impl Print, answer: Answer) -> io::Result<()> {
     let verdict = answer.verdict;
     let deadlines = answer.deadlines;
     match verdict {
-        Verdict::Accepted => print_deadlines(rt, deadlines),
-        Verdict::Refused(refusal) => desk::print_refusal(rt, refusal),
+        Ok(()) => print_deadlines(rt, deadlines),
+        Err(refusal) => desk::print_refusal(rt, refusal),
     }
 }
 
@@ -72,7 +70,7 @@ fn print_usage(rt: &impl Eprint) -> io::Result<()> {
 
 // A text that fills the buffer may go on behind it, and is not looked at.
 fn main(rt: HostRuntime) -> io::Result<()> {
-    let Decimal::Number(horizon) = desk::capped_argument(&rt, 1, TOO_LARGE) else {
+    let Some(horizon) = desk::capped_argument(&rt, 1, TOO_LARGE) else {
         return print_usage(&rt);
     };
     if desk::argument_count(&rt) != 1 {

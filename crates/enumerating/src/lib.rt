@@ -18,13 +18,6 @@ pub struct FittingList {
     pub cost: u64,
 }
 
-// What a search finds.
-#[derive(Clone, Copy)]
-pub enum Found {
-    NoMore,
-    Fitting(FittingList),
-}
-
 // A region of the table: whether it fits, its lines and its cost.
 #[derive(Clone, Copy)]
 pub struct Region {
@@ -44,7 +37,7 @@ struct Walk {
 }
 
 // The fitting list of the lowest number at or above the start.
-pub fn find_next(file: &[u8], start: u64) -> Found
+pub fn find_next(file: &[u8], start: u64) -> Option<FittingList>
     requires { IsAccepted file.now × (block_count (task_of file.now) ≤ 16) }
     ensures { result ≡ next_in (task_of file.now) start }
 {
@@ -92,22 +85,22 @@ fn evaluate_row(file: &[u8], counts: &[u8; 4096], table: &mut [Region; 272], a: 
 }
 
 // The same search by the table: each number is looked at once.
-pub fn next_fitting(table: &[Region; 272], blocks: usize, start: u64) -> Found
+pub fn next_fitting(table: &[Region; 272], blocks: usize, start: u64) -> Option<FittingList>
     requires { (1 ≤ blocks) × (blocks ≤ 16) × Small table.now }
     ensures { result ≡ next_found (fit_in table.now) (lines_in table.now) (cost_in table.now) blocks start }
 {
     let end = 1u64 << (blocks - 1);
     for number in start..end {
         let found = if_fitting(table, blocks, number);
-        let Found::NoMore = found else {
+        let None = found else {
             return found;
         };
     }
-    Found::NoMore
+    None
 }
 
 // The list of a number if it fits: a walk along the bits, which ends a region at each point.
-fn if_fitting(table: &[Region; 272], blocks: usize, number: u64) -> Found
+fn if_fitting(table: &[Region; 272], blocks: usize, number: u64) -> Option<FittingList>
     requires { (1 ≤ blocks) × (blocks ≤ 16) × Small table.now }
     ensures { result ≡ if_fitting (fit_in table.now) (lines_in table.now) (cost_in table.now) blocks number }
 {
@@ -126,13 +119,13 @@ fn if_fitting(table: &[Region; 272], blocks: usize, number: u64) -> Found
     }
     let whole = walk.ended(table, blocks);
     if whole.fits {
-        Found::Fitting(FittingList {
+        Some(FittingList {
             number,
             lines: whole.lines,
             cost: whole.cost,
         })
     } else {
-        Found::NoMore
+        None
     }
 }
 

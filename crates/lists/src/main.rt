@@ -3,11 +3,11 @@
 #![tactic(auto)]
 
 ghost use Rattle.std.specs.Prelude.{◌≡◌, ◌≤◌};
+ghost use Rattle.model.specs.Answers.{accept};
 ghost use Rattle.enumerating.specs.Table.{Small};
 ghost use Rattle.listing.specs.Calls.{list_verdict};
 
-use enumerating::{Found, Region};
-use model::Verdict;
+use enumerating::Region;
 use std::io;
 
 // Appends a number, a space and a cost to what a page holds.
@@ -33,7 +33,7 @@ fn print_all(rt: &impl Print, table: &[Region; 272], blocks: usize) -> io::Resul
     let mut start = 0;
     loop {
         let found = enumerating::next_fitting(table, blocks, start);
-        let Found::Fitting(list) = found else {
+        let Some(list) = found else {
             return desk::print_page(rt, &page, held);
         };
         held = collect_line(rt, &mut page, held, list.number, list.cost)?;
@@ -42,7 +42,7 @@ fn print_all(rt: &impl Print, table: &[Region; 272], blocks: usize) -> io::Resul
 }
 
 fn print_lists(rt: &impl Print, file: &[u8]) -> io::Result<()>
-    requires { list_verdict file.now ≡ Verdict.Accepted }
+    requires { list_verdict file.now ≡ accept }
 {
     let table = enumerating::evaluate_regions(file);
     print_all(rt, &table, taskfile::block_count(file))
@@ -51,8 +51,8 @@ fn print_lists(rt: &impl Print, file: &[u8]) -> io::Result<()>
 fn print_answer(rt: &impl Print, file: &[u8]) -> io::Result<()> {
     let verdict = listing::check(file);
     match verdict {
-        Verdict::Accepted => print_lists(rt, file),
-        Verdict::Refused(refusal) => desk::print_refusal(rt, refusal),
+        Ok(()) => print_lists(rt, file),
+        Err(refusal) => desk::print_refusal(rt, refusal),
     }
 }
 

@@ -1,9 +1,7 @@
 -- What the call answers, and what it leaves in the lent output. Assumes nothing.
-use Rattle.std.specs.Prelude.{ℕ, cond, List, ◌++◌, leb, length, drop}
-use Rattle.model.specs.Answers.{on_accepted, and_then}
+use Rattle.std.specs.Prelude.{ℕ, cond, List, ◌++◌, leb, length, drop, Err}
+use Rattle.model.specs.Answers.{accept, Verdict, on_accepted, and_then}
 use Rattle.model.specs.declared.Refusal.TheVariants.{Output}
-use Rattle.model.specs.declared.Verdict.{Verdict}
-use Rattle.model.specs.declared.Verdict.TheVariants.{Accepted, Refused}
 use Rattle.taskfile.specs.File.{task_of, verdict}
 use Rattle.showing.specs.Text.{text_of}
 use Rattle.showing.specs.declared.Shown.{Shown}
@@ -14,7 +12,7 @@ shown_text file = text_of (task_of file)
 
 -- refusal 9: an output is shorter than the text
 unfoldable pub room_row : ℕ → ℕ → Verdict
-room_row size length = cond (leb size length) Accepted (Refused Output)
+room_row size length = cond (leb size length) accept (Err Output)
 
 -- the verdict, in order: 1 to 5, and 9
 unfoldable pub show_verdict : List ℕ → List ℕ → Verdict

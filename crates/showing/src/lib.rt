@@ -11,12 +11,12 @@ ghost use Rattle.showing.specs.Text.{space, scratch_word, spaced, line_text, hea
 ghost use Rattle.showing.specs.Puts.{Room, Put, limits_text};
 ghost use Rattle.showing.specs.Calls.{shown_text, room_row, show_answer, show_output};
 
-use model::{Header, Refusal, Scratch, Verdict};
+use model::{Header, Refusal, Scratch};
 
 // What is answered: the verdict, and the length of the text.
 #[derive(Clone, Copy)]
 pub struct Shown {
-    pub verdict: Verdict,
+    pub verdict: Result<(), Refusal>,
     pub length: usize,
 }
 
@@ -233,19 +233,19 @@ fn has_room(file: &[u8], room: usize) -> bool
 }
 
 // The answer to a file and an output of this length: 1 to 5, and 9.
-fn check(file: &[u8], room: usize) -> Verdict
+fn check(file: &[u8], room: usize) -> Result<(), Refusal>
     ensures { result ≡ and_then (verdict file.now) (room_row (length (shown_text file.now)) room) }
 {
     let verdict = taskfile::check(file);
     match verdict {
-        Verdict::Accepted => {
+        Ok(()) => {
             if has_room(file, room) {
-                Verdict::Accepted
+                Ok(())
             } else {
-                Verdict::Refused(Refusal::Output)
+                Err(Refusal::Output)
             }
         }
-        Verdict::Refused(_) => verdict,
+        Err(_) => verdict,
     }
 }
 
@@ -257,10 +257,10 @@ pub fn show(file: &[u8], out: &mut [u8]) -> Shown
 {
     let verdict = check(file, out.len());
     match verdict {
-        Verdict::Accepted => {
+        Ok(()) => {
             let length = put_text(out, file);
             Shown { verdict, length }
         }
-        Verdict::Refused(_) => Shown { verdict, length: 0 },
+        Err(_) => Shown { verdict, length: 0 },
     }
 }

@@ -1,5 +1,6 @@
 -- Every file made is accepted, and its task is the traced one: the traced task is within the limits of a file.
 -- Assumes nothing.
+use Rattle.std.specs.Prelude.{None}
 use Prim.Native.Nat.{ℕ, zero, suc, ◌*◌, ◌/◌, ◌^◌, ◌<◌}
 use mathlib.Core.Path.{◌≡◌}
 use mathlib.Core.Bool.{true}
@@ -9,7 +10,6 @@ use native.Mathlib.Omega.{arith}
 use borrow.Author.Tests.{le-leb}
 use lib.ListN.{length, take, drop, length-map}
 use lib.Seq.{take-append_seam}
-use Rattle.model.specs.declared.Place.TheVariants.{Nowhere}
 use Rattle.model.proofs.Lowest.{lowest-nowhere}
 use Rattle.block.specs.Bytes.{Each}
 use Rattle.block.proofs.Each.{each_of, each_map}
@@ -29,7 +29,7 @@ abbrev Small : ℕ → Type 0
 Small m = m < 2 ^ 32
 
 -- the addresses of right lines
-addresses-small : (text : List ℕ) → malformed_line text ≡ Nowhere → Each Small (addresses_of text)
+addresses-small : (text : List ℕ) → malformed_line text ≡ None → Each Small (addresses_of text)
 unfolding malformed_line addresses_of
 addresses-small text e =
     each_map (λ l. line_right l ≡ true) Small address_of right-small (lines_of text)

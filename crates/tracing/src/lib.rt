@@ -14,7 +14,7 @@ ghost use Rattle.tracing.specs.Scans.{after, kept_after, scanned, kept, Ahead, s
 ghost use Rattle.tracing.specs.Calls.{output_size, settings_in_range, settings_row, records_row, line_row, Traceable};
 ghost use Rattle.tracing.specs.Calls.{made_answer, made_output, scan_answer, scan_output, trace_answer, trace_output};
 
-use model::{Header, Refusal, Scratch, Verdict};
+use model::{Header, Refusal, Scratch};
 
 // The addresses that a room holds at least: those of the largest file, 64 basic blocks of 124
 // records, and one more. So a trace of too many records keeps too many addresses and is refused.
@@ -36,7 +36,7 @@ pub struct Settings {
 // What a call answers: the file's length beside the verdict, 0 where it refuses.
 #[derive(Clone, Copy)]
 pub struct Traced {
-    pub verdict: Verdict,
+    pub verdict: Result<(), Refusal>,
     pub length: usize,
 }
 
@@ -148,33 +148,33 @@ fn settings_in_range(settings: Settings) -> bool
 }
 
 // Refuses S, the size or g out of its range.
-fn check_settings(settings: Settings) -> Verdict
+fn check_settings(settings: Settings) -> Result<(), Refusal>
     ensures { result ≡ settings_row settings }
 {
     if settings_in_range(settings) {
-        Verdict::Accepted
+        Ok(())
     } else {
-        Verdict::Refused(Refusal::OutOfRange)
+        Err(Refusal::OutOfRange)
     }
 }
 
 // Refuses no record, too many of them, or a time above 4294967295: the longest block has g records, or all where there are fewer.
-fn check_records(settings: Settings, addresses: &[u32]) -> Verdict
+fn check_records(settings: Settings, addresses: &[u32]) -> Result<(), Refusal>
     ensures { result ≡ records_row settings addresses.now }
 {
     let count = addresses.len();
     let group = settings.group as usize;
     if count == 0 {
-        return Verdict::Refused(Refusal::WrongTrace);
+        return Err(Refusal::WrongTrace);
     }
     if 64 * group < count {
-        return Verdict::Refused(Refusal::WrongTrace);
+        return Err(Refusal::WrongTrace);
     }
     let longest = smaller(count, group);
     if 4294967295 < longest as u64 * settings.ticks as u64 {
-        return Verdict::Refused(Refusal::WrongTrace);
+        return Err(Refusal::WrongTrace);
     }
-    Verdict::Accepted
+    Ok(())
 }
 
 // The memory block that an address lies in.
@@ -447,18 +447,18 @@ impl Scan {
     }
 
     // Refuses a malformed line, of a text that ends here.
-    fn check_line(self) -> Verdict
+    fn check_line(self) -> Result<(), Refusal>
         ensures { result ≡ line_row (scan_place self) }
     {
         if self.column == 0 {
-            Verdict::Accepted
+            Ok(())
         } else {
-            Verdict::Refused(Refusal::WrongTraceLine(self.records))
+            Err(Refusal::WrongTraceLine(self.records))
         }
     }
 
     // Refuses settings, a line or a trace, of a text that ends here and has these addresses.
-    fn check(self, addresses: &[u32], settings: Settings) -> Verdict
+    fn check(self, addresses: &[u32], settings: Settings) -> Result<(), Refusal>
         ensures { result ≡ and_then (settings_row settings) (and_then (line_row (scan_place self)) (records_row settings addresses.now)) }
     {
         let line = self.check_line();
@@ -474,11 +474,11 @@ impl Scan {
         let output = answers::check_output(33280, out.len());
         let verdict = answers::earlier(output, self.check(addresses, settings));
         match verdict {
-            Verdict::Accepted => {
+            Ok(()) => {
                 let length = put_file(out, addresses, settings);
                 Traced { verdict, length }
             }
-            Verdict::Refused(_) => Traced { verdict, length: 0 },
+            Err(_) => Traced { verdict, length: 0 },
         }
     }
 
@@ -492,7 +492,7 @@ impl Scan {
         let size = addresses.len();
         if size < ROOM {
             return Traced {
-                verdict: Verdict::Refused(Refusal::Output),
+                verdict: Err(Refusal::Output),
                 length: 0,
             };
         }

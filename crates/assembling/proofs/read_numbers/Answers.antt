@@ -40,7 +40,7 @@ returns-in_default c =
     (sym c.number_of.ensures ∙ c.in_default.is)
 
 pub overflow_cast-numbers : goal.overflow_cast-numbers
-overflow_cast-numbers c = omega (arith, number_small _ _ (sym c.number_of.ensures ∙ c.in-Number.is))
+overflow_cast-numbers c = omega (arith, number_small _ _ (sym c.number_of.ensures ∙ c.in-Some.is))
 
 pub loop-at-smaller : goal.loop-at-smaller
 loop-at-smaller c =
@@ -50,5 +50,5 @@ pub loop-at-preserved : goal.loop-at-preserved
 loop-at-preserved c = (
   c.next_word-word.ensures.within,
   seen_more _ _ (left (goal.at.loop-at-preserved c).After-next_word-word c.if-start-end.false)
-      (sym c.number_of.ensures ∙ c.in-Number.is) (omega (arith, c.loop-at.invariant.1.few)),
+      (sym c.number_of.ensures ∙ c.in-Some.is) (omega (arith, c.loop-at.invariant.1.few)),
 )

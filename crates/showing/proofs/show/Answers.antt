@@ -1,9 +1,9 @@
 -- `showing::show` meets its contract: where nothing is refused, the text is put into the output, which has room for it.
+use Rattle.model.specs.Answers.{accept}
 use native.Mathlib.Omega.{arith}
 use Prim.Native.Nat.{ℕ}
 use mathlib.Core.Path.{◌≡◌, refl, sym, ap, ◌∙◌}
 use lib.ListN.{length}
-use Rattle.model.specs.declared.Verdict.TheVariants.{Accepted}
 use Rattle.model.proofs.Verdicts.{both-accepted}
 use Rattle.taskfile.specs.File.{verdict}
 use Rattle.showing.specs.Calls.{shown_text, show_verdict, show_answer, show_output}
@@ -19,20 +19,20 @@ unfolding show_verdict
 decided c = c.check-verdict.ensures
 
 pub put_text-length-requires : goal.put_text-length-requires
-put_text-length-requires c = (both-accepted (verdict c.args.file.now) _ (sym c.check-verdict.ensures ∙ c.in-Accepted.is)).0
+put_text-length-requires c = (both-accepted (verdict c.args.file.now) _ (sym c.check-verdict.ensures ∙ c.in-Ok.is)).0
 
-pub returns-in-Accepted : goal.returns-in-Accepted
+pub returns-in-Ok : goal.returns-in-Ok
 unfolding show_answer show_output
-returns-in-Accepted c =
+returns-in-Ok c =
     let file = c.args.file.now in
     let out = c.args.out.now in
-    let right = sym (decided (goal.at.returns-in-Accepted c).After-check-verdict) ∙ c.in-Accepted.is in
+    let right = sym (decided (goal.at.returns-in-Ok c).After-check-verdict) ∙ c.in-Ok.is in
     let put = c.put_text-length.ensures in
     let size : c.put_text-length.result ≡ length (shown_text file) = omega (arith, put.place) in
     rw right
-    record { value = rw c.in-Accepted.is (ap (λ (n : ℕ). record { verdict = Accepted; length = n }) size); out_after = put.bytes ∙ laid-whole (shown_text file) out (text-fits file out right) }
+    record { value = rw c.in-Ok.is (ap (λ (n : ℕ). record { verdict = accept; length = n }) size); out_after = put.bytes ∙ laid-whole (shown_text file) out (text-fits file out right) }
 
-pub returns-in-Refused : goal.returns-in-Refused
+pub returns-in-Err : goal.returns-in-Err
 unfolding show_answer show_output
-returns-in-Refused c =
-    rw (← decided (goal.at.returns-in-Refused c).After-check-verdict, c.in-Refused.is) record { value = refl; out_after = refl }
+returns-in-Err c =
+    rw (← decided (goal.at.returns-in-Err c).After-check-verdict, c.in-Err.is) record { value = refl; out_after = refl }

@@ -3,8 +3,7 @@ use Prim.Native.Nat.{ℕ}
 use mathlib.Core.Path.{◌≡◌, refl, sym, ap, ap₂, ◌∙◌}
 use mathlib.Core.List.{◌++◌}
 use lib.ListN.{drop}
-use Rattle.model.specs.Answers.{and_then}
-use Rattle.model.specs.declared.Verdict.TheVariants.{Accepted}
+use Rattle.model.specs.Answers.{accept, and_then}
 use Rattle.taskfile.specs.File.{file_of}
 use Rattle.tracing.specs.Traces.{traced_task}
 use Rattle.tracing.specs.Scans.{scan_place}
@@ -21,18 +20,18 @@ decided c = c.earlier-verdict.ensures ∙ ap₂ and_then c.check_output-output.e
 
 pub put_file-length-requires : goal.put_file-length-requires
 put_file-length-requires c =
-    let rows = accepted-rows _ _ _ _ (sym (decided (goal.at.put_file-length-requires c).After-earlier-verdict) ∙ c.in-Accepted.is) in
+    let rows = accepted-rows _ _ _ _ (sym (decided (goal.at.put_file-length-requires c).After-earlier-verdict) ∙ c.in-Ok.is) in
     (rows.traceable, rows.size)
 
-pub returns-in-Accepted : goal.returns-in-Accepted
+pub returns-in-Ok : goal.returns-in-Ok
 unfolding made_answer made_output answer_of output_of
-returns-in-Accepted c =
+returns-in-Ok c =
     let put = c.put_file-length in
     let args = c.args in
     let file = file_of (traced_task args.settings args.addresses.now) in
-    rw (← decided (goal.at.returns-in-Accepted c).After-earlier-verdict, c.in-Accepted.is)
-    record { value = ap (λ (n : ℕ). record { verdict = Accepted; length = n }) c.put_file-length.ensures.value; out_after = c.put_file-length.ensures.out_after ∙ ap (λ (n : ℕ). file ++ drop n args.out.now) c.put_file-length.ensures.value }
+    rw (← decided (goal.at.returns-in-Ok c).After-earlier-verdict, c.in-Ok.is)
+    record { value = ap (λ (n : ℕ). record { verdict = accept; length = n }) c.put_file-length.ensures.value; out_after = c.put_file-length.ensures.out_after ∙ ap (λ (n : ℕ). file ++ drop n args.out.now) c.put_file-length.ensures.value }
 
-pub returns-in-Refused : goal.returns-in-Refused
+pub returns-in-Err : goal.returns-in-Err
 unfolding made_answer made_output answer_of output_of
-returns-in-Refused c = rw (← decided (goal.at.returns-in-Refused c).After-earlier-verdict, c.in-Refused.is) record { value = refl; out_after = refl }
+returns-in-Err c = rw (← decided (goal.at.returns-in-Err c).After-earlier-verdict, c.in-Err.is) record { value = refl; out_after = refl }

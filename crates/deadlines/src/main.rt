@@ -2,7 +2,8 @@
 // task: its execution time, period, deadline and longest region, decimal numbers with one space between.
 #![tactic(auto)]
 
-use demand::{Answer, Deadlines, TaskSet};
+use demand::TaskSet;
+use model::Refusal;
 use std::io;
 
 // A number above every range, which stands for all that are too large.
@@ -10,9 +11,7 @@ const TOO_LARGE: u32 = 16777216;
 
 // The number that a field says, or one that is too large in its place.
 fn field_number(field: &[u8]) -> Option<u32> {
-    let Some(number) = decimals::capped_decimal(field, TOO_LARGE) else {
-        return None;
-    };
+    let number = decimals::capped_decimal(field, TOO_LARGE)?;
     Some(number as u32)
 }
 
@@ -44,21 +43,13 @@ fn read_set(text: &[u8]) -> Option<TaskSet> {
     Some(set)
 }
 
-fn print_deadlines(rt: &impl Print, deadlines: Deadlines) -> io::Result<()> {
-    match deadlines {
-        Deadlines::Met => desk::print(rt, b"yes")?,
-        Deadlines::Missed(t) => desk::print_field(rt, b"no at ", t as u64)?,
+fn print_answer(rt: &impl Print, answer: Result<Option<u32>, Refusal>) -> io::Result<()> {
+    match answer {
+        Ok(None) => desk::print(rt, b"yes")?,
+        Ok(Some(t)) => desk::print_field(rt, b"no at ", t as u64)?,
+        Err(refusal) => return desk::print_refusal(rt, refusal),
     }
     desk::end_line(rt)
-}
-
-fn print_answer(rt: &impl Print, answer: Answer) -> io::Result<()> {
-    let verdict = answer.verdict;
-    let deadlines = answer.deadlines;
-    match verdict {
-        Ok(()) => print_deadlines(rt, deadlines),
-        Err(refusal) => desk::print_refusal(rt, refusal),
-    }
 }
 
 fn print_usage(rt: &impl Eprint) -> io::Result<()> {

@@ -34,21 +34,8 @@ pub struct TaskSet {
     pub tasks: [TaskRecord; 16],
 }
 
-// Whether all deadlines are met, or the first time at which the total is more than the time.
-#[derive(Clone, Copy)]
-pub enum Deadlines {
-    Met,
-    Missed(u32),
-}
-
-// What the test answers.
-#[derive(Clone, Copy)]
-pub struct Answer {
-    pub verdict: Result<(), Refusal>,
-    pub deadlines: Deadlines,
-}
-
-// Each field of the tasks in an array of its own.
+// Each field of the tasks in an array of its own: the loops over one field are then four tasks at a time. The same loops over one array of tasks took
+// 1.0 to 2.2 times as long for 16 tasks.
 #[derive(Clone, Copy)]
 struct Columns {
     count: usize,
@@ -72,8 +59,8 @@ struct Blocked {
     until: u32,
 }
 
-// The test of a list of tasks up to a horizon.
-pub fn test_deadlines(tasks: &[TaskRecord], horizon: u32) -> Answer
+// The first time up to a horizon at which the total of a list of tasks is more than the time, or none where all deadlines are met.
+pub fn test_deadlines(tasks: &[TaskRecord], horizon: u32) -> Result<Option<u32>, Refusal>
     ensures { result ≡ answer tasks.now horizon }
 {
     test_set(load(tasks), horizon)
@@ -127,20 +114,14 @@ pub fn with_task(set: TaskSet, execution: u32, period: u32, deadline: u32, regio
     }
 }
 
-// The test of a set up to a horizon.
-pub fn test_set(set: TaskSet, horizon: u32) -> Answer
+// The same of a set.
+pub fn test_set(set: TaskSet, horizon: u32) -> Result<Option<u32>, Refusal>
     ensures { result ≡ answer_of set.count (take set.count set.tasks) horizon }
 {
     if right_set(set) & (horizon <= MOST_TICKS) {
-        Answer {
-            verdict: Ok(()),
-            deadlines: first_miss(set, horizon),
-        }
+        Ok(first_miss(set, horizon))
     } else {
-        Answer {
-            verdict: Err(Refusal::WrongTaskSet),
-            deadlines: Deadlines::Missed(0),
-        }
+        Err(Refusal::WrongTaskSet)
     }
 }
 
@@ -183,7 +164,7 @@ fn right_set(set: TaskSet) -> bool
 
 // The first time at which the total is more than the time. Between two instants the demand stays and the blocking falls, so only instants are visited,
 // in rising order. Until the test fails the demand is at most t, so 32 bits hold it and what an instant adds.
-fn first_miss(set: TaskSet, horizon: u32) -> Deadlines
+fn first_miss(set: TaskSet, horizon: u32) -> Option<u32>
     requires { (right_set set.count (take set.count set.tasks) ≡ true) × (horizon ≤ most_ticks) }
     ensures { result ≡ deadlines_of (take set.count set.tasks) horizon }
 {
@@ -200,11 +181,11 @@ fn first_miss(set: TaskSet, horizon: u32) -> Deadlines
         demand = passed.demand;
         blocked = columns.blocked_from(blocked, t);
         if t < demand + blocked.region {
-            return Deadlines::Missed(t);
+            return Some(t);
         }
         t = passed.next;
     }
-    Deadlines::Met
+    None
 }
 
 // The fields of the tasks, each in its array.

@@ -1,6 +1,6 @@
--- `testload::put_block` meets its contract: the time is drawn, then the count and the reads.
+-- `testload::BasicDrawn::put` meets its contract: the time is drawn, then the count and the reads.
 use Rattle.testload.specs.Draws.{drawn_reads, after_reads, drawn_block, after_block}
-use Rattle.testload.proofs.put_block.Goals as goal
+use Rattle.testload.proofs.BasicDrawn.put.Goals as goal
 
 pub returns : goal.returns
 unfolding drawn_reads after_reads drawn_block after_block
@@ -10,6 +10,6 @@ returns c =
       ← c.draw-time.ensures.1,
       ← c.draw-count.ensures.0,
       ← c.draw-count.ensures.1,
-      ← c.put_numbers-after.ensures.count_after,
+      ← c.put_numbers.ensures.count_after,
     )
-    record { block_after = c.close_basic.ensures; value = c.put_numbers-after.ensures.value }
+    record { block_after = c.close_basic.ensures; state_after = c.put_numbers.ensures.state_after }

@@ -91,10 +91,9 @@ pub fn next_fitting(table: &[Region; 272], blocks: usize, start: u64) -> Option<
 {
     let end = 1u64 << (blocks - 1);
     for number in start..end {
-        let found = if_fitting(table, blocks, number);
-        let None = found else {
-            return found;
-        };
+        if let Some(list) = if_fitting(table, blocks, number) {
+            return Some(list);
+        }
     }
     None
 }

@@ -31,14 +31,11 @@ fn print_all(rt: &impl Print, table: &[Region; 272], blocks: usize) -> io::Resul
     let mut page = [0u8; 4096];
     let mut held = 0;
     let mut start = 0;
-    loop {
-        let found = enumerating::next_fitting(table, blocks, start);
-        let Some(list) = found else {
-            return desk::print_page(rt, &page, held);
-        };
+    while let Some(list) = enumerating::next_fitting(table, blocks, start) {
         held = collect_line(rt, &mut page, held, list.number, list.cost)?;
         start = list.number + 1;
     }
+    desk::print_page(rt, &page, held)
 }
 
 fn print_lists(rt: &impl Print, file: &[u8]) -> io::Result<()>
@@ -49,8 +46,7 @@ fn print_lists(rt: &impl Print, file: &[u8]) -> io::Result<()>
 }
 
 fn print_answer(rt: &impl Print, file: &[u8]) -> io::Result<()> {
-    let verdict = listing::check(file);
-    match verdict {
+    match listing::check(file) {
         Ok(()) => print_lists(rt, file),
         Err(refusal) => desk::print_refusal(rt, refusal),
     }

@@ -2,58 +2,30 @@
 // task: its execution time, period, deadline and longest region, decimal numbers with one space between.
 #![tactic(auto)]
 
-ghost use Rattle.std.specs.Prelude.{◌≤◌, length};
-
-use demand::{Answer, Deadlines, TaskSet};
+use demand::TaskSet;
+use model::Refusal;
 use std::io;
 
 // A number above every range, which stands for all that are too large.
 const TOO_LARGE: u32 = 16777216;
 
-// The set that a text gives, if all its lines have four numbers.
-#[derive(Clone, Copy)]
-struct TextRead {
-    right: bool,
-    set: TaskSet,
+// The number that a field says, or one that is too large in its place.
+fn field_number(field: &[u8]) -> Option<u32> {
+    let number = decimals::capped_decimal(field, TOO_LARGE)?;
+    Some(number as u32)
 }
 
-// A number of at most that, in four bytes.
-fn four_bytes(number: u64) -> u32 {
-    (number % 4294967296) as u32
-}
-
-// The first place of a byte, from a place on, or the end.
-fn find(text: &[u8], from: usize, byte: u8) -> usize
-    requires { from ≤ length text.now }
-    ensures { (from ≤ result) × (result ≤ length text.now) }
-{
-    let mut i = from;
-    while i < text.len() {
-        if text[i] == byte {
-            return i;
-        }
-        i += 1;
+// The four numbers of a line, with one space between.
+fn read_line(line: &[u8]) -> Option<[u32; 4]> {
+    let mut fields = line.split(|byte| *byte == b' ');
+    let mut numbers = [0u32; 4];
+    for number in numbers.iter_mut() {
+        *number = field_number(fields.next()?)?;
     }
-    i
-}
-
-// Puts the numbers of a line into an array, and answers whether they are four, with one space between.
-fn read_line(line: &[u8], numbers: &mut [u32; 4]) -> bool {
-    let mut at = 0;
-    let mut i = 0;
-    while i < 4 {
-        if line.len() < at {
-            return false;
-        }
-        let end = find(line, at, b' ');
-        let Some(number) = decimals::capped_decimal(&line[at..end], TOO_LARGE) else {
-            return false;
-        };
-        numbers[i] = four_bytes(number);
-        at = end + 1;
-        i += 1;
+    match fields.next() {
+        None => Some(numbers),
+        Some(_) => None,
     }
-    line.len() < at
 }
 
 // The set with the task that a line's numbers give.
@@ -61,37 +33,23 @@ fn with_line(set: TaskSet, numbers: [u32; 4]) -> TaskSet {
     demand::with_task(set, numbers[0], numbers[1], numbers[2], numbers[3])
 }
 
-// The set of a text; the line feed of the last line may be missing.
-fn read_set(text: &[u8]) -> TextRead {
+// The set of a text, if all its lines have four numbers; the line feed of the last line may be missing.
+fn read_set(text: &[u8]) -> Option<TaskSet> {
     let mut set = demand::no_tasks();
-    let mut at = 0;
-    while at < text.len() {
-        let end = find(text, at, b'\n');
-        let mut numbers = [0u32; 4];
-        if !read_line(&text[at..end], &mut numbers) {
-            return TextRead { right: false, set };
-        }
+    for line in text.split_inclusive(|byte| *byte == b'\n') {
+        let numbers = read_line(line.strip_suffix(b"\n").unwrap_or(line))?;
         set = with_line(set, numbers);
-        at = end + 1;
     }
-    TextRead { right: true, set }
+    Some(set)
 }
 
-fn print_deadlines(rt: &impl Print, deadlines: Deadlines) -> io::Result<()> {
-    match deadlines {
-        Deadlines::Met => desk::print(rt, b"yes")?,
-        Deadlines::Missed(t) => desk::print_field(rt, b"no at ", t as u64)?,
+fn print_answer(rt: &impl Print, answer: Result<Option<u32>, Refusal>) -> io::Result<()> {
+    match answer {
+        Ok(None) => desk::print(rt, b"yes")?,
+        Ok(Some(t)) => desk::print_field(rt, b"no at ", t as u64)?,
+        Err(refusal) => return desk::print_refusal(rt, refusal),
     }
     desk::end_line(rt)
-}
-
-fn print_answer(rt: &impl Print, answer: Answer) -> io::Result<()> {
-    let verdict = answer.verdict;
-    let deadlines = answer.deadlines;
-    match verdict {
-        Ok(()) => print_deadlines(rt, deadlines),
-        Err(refusal) => desk::print_refusal(rt, refusal),
-    }
 }
 
 fn print_usage(rt: &impl Eprint) -> io::Result<()> {
@@ -111,9 +69,11 @@ fn main(rt: HostRuntime) -> io::Result<()> {
     }
     let mut text = [0u8; 65536];
     let n = desk::read_input(&rt, &mut text)?;
-    let read = read_set(&text[..n]);
-    if !read.right | (n == 65536) {
+    let Some(set) = read_set(&text[..n]) else {
+        return print_usage(&rt);
+    };
+    if n == 65536 {
         return print_usage(&rt);
     }
-    print_answer(&rt, demand::test_set(read.set, four_bytes(horizon)))
+    print_answer(&rt, demand::test_set(set, horizon as u32))
 }

@@ -1,6 +1,5 @@
 -- The two answers to a set, by its test. Assumes nothing.
-use Rattle.std.specs.Prelude.{Err}
-use Rattle.model.specs.Answers.{accept}
+use Rattle.std.specs.Prelude.{Err, Ok, Option}
 use Prim.Native.Nat.{ℕ, ◌≤◌}
 use mathlib.Core.Path.{◌≡◌, sym, ap, ◌∙◌}
 use mathlib.Core.Bool.{Bool, true, false, ◌&&◌, and-eq-true_iff}
@@ -10,9 +9,6 @@ use borrow.Author.Tests.{leb-true}
 use Rattle.model.specs.declared.Refusal.TheVariants.{WrongTaskSet}
 use Rattle.demand.specs.Demand.{most_ticks, deadlines_of}
 use Rattle.demand.specs.Calls.{right_set, set_verdict, answer_of}
-use Rattle.demand.specs.declared.Answer.{Answer}
-use Rattle.demand.specs.declared.Deadlines.{Deadlines}
-use Rattle.demand.specs.declared.Deadlines.TheVariants.{Missed}
 use Rattle.demand.specs.declared.TaskRecord.{TaskRecord}
 
 module _ (n : ℕ) (τs : List TaskRecord) (horizon : ℕ) (right : Bool) (is : right ≡ right_set n τs) where
@@ -24,12 +20,10 @@ module _ (n : ℕ) (τs : List TaskRecord) (horizon : ℕ) (right : Bool) (is : 
       let both = (and-eq-true_iff (right_set n τs) (leb horizon most_ticks)).0 (test-is true h) in
       (both.0, leb-true _ _ both.1)
 
-  pub accepted-answer : (d : Deadlines) → (right && leb horizon most_ticks) ≡ true → d ≡ deadlines_of τs horizon
-      → ◌≡◌ {A = Answer} (record { verdict = accept; deadlines = d }) (answer_of n τs horizon)
+  pub accepted-answer : (d : Option ℕ) → (right && leb horizon most_ticks) ≡ true → d ≡ deadlines_of τs horizon → Ok d ≡ answer_of n τs horizon
   unfolding answer_of set_verdict
   accepted-answer d h e = rw (test-is true h, e)
 
-  pub refused-answer : (right && leb horizon most_ticks) ≡ false
-      → ◌≡◌ {A = Answer} (record { verdict = Err WrongTaskSet; deadlines = Missed 0 }) (answer_of n τs horizon)
+  pub refused-answer : (right && leb horizon most_ticks) ≡ false → Err WrongTaskSet ≡ answer_of n τs horizon
   unfolding answer_of set_verdict
   refused-answer h = rw (test-is false h)

@@ -4,14 +4,13 @@ use Prim.Native.Nat.{ℕ, ◌+◌, ◌-◌, ◌≤◌, ◌<◌}
 use mathlib.Core.Path.{◌≡◌, refl, sym}
 use mathlib.Core.Bool.{true, and-eq-true_iff}
 use mathlib.Core.Logic.{◌⊎◌, inl, inr, by_cases}
+use Rattle.std.specs.Prelude.{None, Option, Some}
 use mathlib.Core.List.{List, [], ◌∷◌, Memᴰ}
 use native.Mathlib.Decide.{ℕ_discrete, dec_le}
 use native.Mathlib.Omega.{arith}
 use Rattle.demand.specs.Demand.{jobs, demand, demands, blocking, total, least_deadline, deadlines_of}
 use Rattle.demand.specs.Calls.{right_task, right_tasks}
 use Rattle.demand.specs.Statements.{SmallestDeadline, IsInstant, FirstMissAtInstant, InstantsDecide}
-use Rattle.demand.specs.declared.Deadlines.{Deadlines}
-use Rattle.demand.specs.declared.Deadlines.TheVariants.{Met, Missed}
 use Rattle.demand.specs.declared.TaskRecord.{TaskRecord}
 use Rattle.demand.proofs.Jobs.{instant, jobs-stay, before-next}
 use Rattle.demand.proofs.Ranges.{task-ranges}
@@ -83,8 +82,8 @@ first-miss-at-instant (σ ∷ σs) horizon t h e =
 pub instants-decide : InstantsDecide
 instants-decide τs horizon h all = go (deadlines_of τs horizon) refl
   where
-    go : (d : Deadlines) → deadlines_of τs horizon ≡ d → d ≡ Met
-    go Met e = refl
-    go (Missed t) e =
+    go : (d : Option ℕ) → deadlines_of τs horizon ≡ d → d ≡ None
+    go None e = refl
+    go (Some t) e =
         let miss = missed_first τs horizon t e in
         absurd (omega (arith, all t (first-miss-at-instant τs horizon t h e) miss.1, miss.2))

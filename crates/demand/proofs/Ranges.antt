@@ -1,11 +1,12 @@
 -- What a right set says of its numbers: how many tasks there are, and the range of each field. Assumes nothing.
 use Prim.Native.Nat.{ℕ, zero, suc, ◌+◌, ◌≤◌, ◌<◌}
-use mathlib.Core.Path.{◌≡◌}
+use mathlib.Core.Path.{◌≡◌, refl}
 use mathlib.Core.Bool.{true, false, ◌&&◌, and-eq-true_iff, and-false}
 use mathlib.Core.Logic.{◌⊎◌, inl, inr}
 use mathlib.Core.List.{List, [], ◌∷◌}
 use native.Mathlib.Numerals.{add-one}
 use native.Mathlib.Omega.{arith}
+use Rattle.std.specs.List.{list_all}
 use lib.Dec.{leb}
 use lib.ListN.{length, drop}
 use lib.Seq.{drop-cons, drop-length}
@@ -56,19 +57,10 @@ lane-ranges [] h k l = absurd (omega arith)
 lane-ranges (τ ∷ τs) h zero l = task-ranges τ ((and-eq-true_iff (right_task τ) (right_tasks τs)).0 h).0
 lane-ranges (τ ∷ τs) h (suc k) l = lane-ranges τs ((and-eq-true_iff (right_task τ) (right_tasks τs)).0 h).1 k (omega arith)
 
--- the tasks one by one: xs are all of them, and i is looked at
-
-pub rights-more : (xs : List TaskRecord) (i : ℕ) → i < length xs → right_task (lane xs i) ≡ true → right_tasks (drop i xs) ≡ right_tasks (drop (i + 1) xs)
+pub all_right : (τs : List TaskRecord) → list_all right_task τs ≡ right_tasks τs
 unfolding right_tasks
-rights-more xs i l h = rw (add-one i, drop-cons xs i no_task l, h)
-
-pub rights-wrong : (xs : List TaskRecord) (i : ℕ) → i < length xs → right_task (lane xs i) ≡ false → right_tasks (drop i xs) ≡ false
-unfolding right_tasks
-rights-wrong xs i l h = rw (drop-cons xs i no_task l, h)
-
-pub rights-end : (xs : List TaskRecord) (i : ℕ) → i ≡ length xs → right_tasks (drop i xs) ≡ true
-unfolding right_tasks
-rights-end xs i l = rw (l, drop-length xs)
+all_right [] = refl
+all_right (τ ∷ τs) = rw (all_right τs)
 
 pub set-rights : (n : ℕ) (τs : List TaskRecord) → 1 ≤ n → n ≤ most_tasks → right_set n τs ≡ right_tasks τs
 unfolding right_set

@@ -5,6 +5,7 @@ use Prim.Native.Nat.{ℕ, ◌+◌, ◌-◌, ◌*◌, ◌≤◌, ◌<◌, min, ma
 use mathlib.Core.Path.{◌≡◌, refl, sym, ap, ◌∙◌}
 use mathlib.Core.Bool.{Bool, true, false, cond, and-eq-true_iff}
 use mathlib.Core.Logic.{by_cases}
+use Rattle.std.specs.Prelude.{None, Option, Some}
 use mathlib.Core.List.{List, [], ◌∷◌}
 use native.Mathlib.Decide.{ℕ_discrete, dec_lt}
 use native.Mathlib.Nat.{mul-add, mul-one}
@@ -16,7 +17,6 @@ use borrow.Author.Tests.{lt-ltb, le-ltb}
 use Rattle.demand.specs.Demand.{most_ticks, jobs, demand, demands, blocks, blocking, total, least_deadline, deadlines_of}
 use Rattle.demand.specs.Calls.{most_tasks, right_task, right_tasks}
 use Rattle.demand.specs.Lanes.{lane, Holds, Column, below, at_instant, moved, blocked_by}
-use Rattle.demand.specs.declared.Deadlines.TheVariants.{Met, Missed}
 use Rattle.demand.specs.declared.TaskRecord.{TaskRecord}
 use Rattle.demand.proofs.Decided.{met-exactly, missed-is}
 use Rattle.demand.proofs.Jobs.{instant, next-instant, jobs-none, before-next, jobs-stay, jobs-more}
@@ -240,8 +240,8 @@ module _ (τs : List TaskRecord) (n : ℕ) (es ps ds qs : List ℕ) (a : Arrays 
 -- the answers
 
 pub first-missed : (τs : List TaskRecord) (xs : List ℕ) (demanded t horizon : ℕ) → Visiting τs xs demanded t → t ≤ horizon → t < total τs t
-    → deadlines_of τs horizon ≡ Missed t
+    → deadlines_of τs horizon ≡ Some t
 first-missed τs xs demanded t horizon v l h = missed-is τs horizon t v.from l h v.met
 
-pub all-met : (τs : List TaskRecord) (xs : List ℕ) (demanded t horizon : ℕ) → Visiting τs xs demanded t → horizon < t → deadlines_of τs horizon ≡ Met
+pub all-met : (τs : List TaskRecord) (xs : List ℕ) (demanded t horizon : ℕ) → Visiting τs xs demanded t → horizon < t → deadlines_of τs horizon ≡ None
 all-met τs xs demanded t horizon v l = (met-exactly τs horizon).1 (λ s f u. v.met s f (omega arith))

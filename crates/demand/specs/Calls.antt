@@ -1,10 +1,9 @@
 -- What the call answers (document 02, item 13). Assumes nothing.
-use Rattle.std.specs.Prelude.{ℕ, Bool, true, cond, ◌&&◌, List, [], ◌∷◌, leb, length, Err}
-use Rattle.model.specs.Answers.{accept, Verdict, on_accepted}
+use Rattle.std.specs.Prelude.{ℕ, Bool, true, cond, ◌&&◌, List, [], ◌∷◌, leb, length, Err, Option, Result}
+use Rattle.model.specs.Answers.{accept, Verdict, answered}
+use Rattle.model.specs.declared.Refusal.{Refusal}
 use Rattle.model.specs.declared.Refusal.TheVariants.{WrongTaskSet}
 use Rattle.demand.specs.Demand.{most_ticks, deadlines_of}
-use Rattle.demand.specs.declared.Answer.{Answer}
-use Rattle.demand.specs.declared.Deadlines.TheVariants.{Missed}
 use Rattle.demand.specs.declared.TaskRecord.{TaskRecord}
 
 -- the most records of a list
@@ -30,14 +29,10 @@ right_set n τs = leb 1 n && leb n most_tasks && right_tasks τs
 unfoldable pub set_verdict : ℕ → List TaskRecord → ℕ → Verdict
 set_verdict n τs horizon = cond (right_set n τs && leb horizon most_ticks) accept (Err WrongTaskSet)
 
--- the answer; a refusal carries a miss at 0, which no set has
-unfoldable pub answer_of : ℕ → List TaskRecord → ℕ → Answer
-answer_of n τs horizon =
-    record {
-      verdict = set_verdict n τs horizon;
-      deadlines = on_accepted (set_verdict n τs horizon) (deadlines_of τs horizon) (Missed 0);
-    }
+-- the answer: the first t that fails, if one does, or the refusal
+unfoldable pub answer_of : ℕ → List TaskRecord → ℕ → Result (Option ℕ) Refusal
+answer_of n τs horizon = answered (set_verdict n τs horizon) (deadlines_of τs horizon)
 
 -- the answer to a list
-abbrev pub answer : List TaskRecord → ℕ → Answer
+abbrev pub answer : List TaskRecord → ℕ → Result (Option ℕ) Refusal
 answer τs horizon = answer_of (length τs) τs horizon

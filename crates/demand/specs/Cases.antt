@@ -1,13 +1,10 @@
 -- Task sets worked by hand (document 02, item 13). Assumes nothing.
-use Rattle.std.specs.Prelude.{ℕ, ◌≤◌, ◌≡◌, List, [], ◌∷◌, replicate}
-use Rattle.model.specs.Answers.{accept}
-use Rattle.model.specs.Cases.{RefusedBy}
+use Rattle.std.specs.Prelude.{ℕ, ◌≤◌, ◌≡◌, List, [], ◌∷◌, replicate, Err, None, Ok, Some}
+use Rattle.model.specs.Answers.{number, place}
+use Rattle.model.specs.declared.Refusal.{Refusal}
 use Rattle.demand.specs.Demand.{most_ticks, total}
 use Rattle.demand.specs.Calls.{answer}
 use Rattle.demand.specs.Loading.{task}
-use Rattle.demand.specs.declared.Answer.{Answer}
-use Rattle.demand.specs.declared.Deadlines.{Deadlines}
-use Rattle.demand.specs.declared.Deadlines.TheVariants.{Met, Missed}
 use Rattle.demand.specs.declared.TaskRecord.{TaskRecord}
 
 pub data Case : Type 0 where
@@ -16,14 +13,11 @@ pub data Case : Type 0 where
   total_is : List TaskRecord → ℕ → ℕ → Case  -- the total at t
   refused : List TaskRecord → ℕ → ℕ → ℕ → Case  -- refused by this number at this place
 
-abbrev pub accepting : Deadlines → Answer
-accepting d = record { verdict = accept; deadlines = d }
-
 abbrev pub CaseHolds : Case → Type 0
-CaseHolds (met_up_to τs horizon) = answer τs horizon ≡ accepting Met
-CaseHolds (missed_at τs t) = (horizon : ℕ) → t ≤ horizon → horizon ≤ most_ticks → answer τs horizon ≡ accepting (Missed t)
+CaseHolds (met_up_to τs horizon) = answer τs horizon ≡ Ok None
+CaseHolds (missed_at τs t) = (horizon : ℕ) → t ≤ horizon → horizon ≤ most_ticks → answer τs horizon ≡ Ok (Some t)
 CaseHolds (total_is τs t n) = total τs t ≡ n
-CaseHolds (refused τs horizon n i) = RefusedBy n i (answer τs horizon).verdict
+CaseHolds (refused τs horizon n i) = (r : Refusal) × (answer τs horizon ≡ Err r) × (number r ≡ n) × (place r ≡ i)
 
 -- two tasks, the second with this execution time
 abbrev pub two_periods : ℕ → List TaskRecord

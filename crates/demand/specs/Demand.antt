@@ -1,9 +1,7 @@
 -- What the tasks of a set demand of the processor and what blocks them, at every whole t, and whether all deadlines are met (document 02, item 13,
 -- with document 000's demand bound function). A number of ticks has no width here. Assumes nothing.
-use Rattle.std.specs.Prelude.{ℕ, suc, ◌+◌, ◌-◌, ◌*◌, ◌/◌, min, max, Bool, cond, List, [], ◌∷◌, leb, ltb, None, Option, Some}
+use Rattle.std.specs.Prelude.{ℕ, suc, ◌+◌, ◌-◌, ◌*◌, ◌/◌, min, max, Bool, cond, List, [], ◌∷◌, leb, ltb, Option}
 use Rattle.model.specs.Lists.{lowest_from}
-use Rattle.demand.specs.declared.Deadlines.{Deadlines}
-use Rattle.demand.specs.declared.Deadlines.TheVariants.{Met, Missed}
 use Rattle.demand.specs.declared.TaskRecord.{TaskRecord}
 
 -- the most ticks that a record's field and the horizon may have
@@ -44,11 +42,6 @@ unfoldable pub least_deadline : List TaskRecord → ℕ
 least_deadline [] = most_ticks + 1
 least_deadline (τ ∷ τs) = min τ.deadline (least_deadline τs)
 
--- the cases of the answer: no t fails, or t is the first that does
-abbrev pub deadlines_at : Option ℕ → Deadlines
-deadlines_at None = Met
-deadlines_at (Some t) = Missed t
-
--- every whole t from the smallest deadline up to the horizon is looked at; there is none where the horizon is below it
-unfoldable pub deadlines_of : List TaskRecord → ℕ → Deadlines
-deadlines_of τs horizon = deadlines_at (lowest_from (meets_at τs) (least_deadline τs) (suc horizon - least_deadline τs))
+-- the first t that fails, or none: every whole t from the smallest deadline up to the horizon is looked at; there is none where the horizon is below it
+unfoldable pub deadlines_of : List TaskRecord → ℕ → Option ℕ
+deadlines_of τs horizon = lowest_from (meets_at τs) (least_deadline τs) (suc horizon - least_deadline τs)

@@ -1,11 +1,10 @@
 -- What is shown of the definitions and no contract says (document 02, item 13). Each is proved in proofs/ under its name in small letters.
 -- Assumes nothing.
-use Rattle.std.specs.Prelude.{ℕ, ◌+◌, ◌*◌, ◌^◌, ◌≤◌, ◌<◌, ◌≡◌, true, length}
+use Rattle.std.specs.Prelude.{ℕ, ◌+◌, ◌*◌, ◌^◌, ◌≤◌, ◌<◌, ◌≡◌, true, length, None, Some}
 use mathlib.Core.List.{List, Memᴰ}
 use Rattle.demand.specs.Demand.{most_ticks, total, least_deadline, deadlines_of}
 use Rattle.demand.specs.Calls.{most_tasks, right_tasks}
 use Rattle.demand.specs.Cases.{Case, CaseHolds, cases}
-use Rattle.demand.specs.declared.Deadlines.TheVariants.{Met, Missed}
 use Rattle.demand.specs.declared.TaskRecord.{TaskRecord}
 
 -- the total is at most t at every whole t from the smallest deadline up to the horizon
@@ -14,12 +13,12 @@ MeetsAll τs horizon = (t : ℕ) → least_deadline τs ≤ t → t ≤ horizon 
 
 -- then and only then the answer is yes
 abbrev pub MetExactly : Type 0
-MetExactly = (τs : List TaskRecord) (horizon : ℕ) → (deadlines_of τs horizon ≡ Met → MeetsAll τs horizon) × (MeetsAll τs horizon → deadlines_of τs horizon ≡ Met)
+MetExactly = (τs : List TaskRecord) (horizon : ℕ) → (deadlines_of τs horizon ≡ None → MeetsAll τs horizon) × (MeetsAll τs horizon → deadlines_of τs horizon ≡ None)
 
 -- a no carries the first t that fails
 abbrev pub MissedFirst : Type 0
 MissedFirst =
-    (τs : List TaskRecord) (horizon t : ℕ) → deadlines_of τs horizon ≡ Missed t
+    (τs : List TaskRecord) (horizon t : ℕ) → deadlines_of τs horizon ≡ Some t
     → (least_deadline τs ≤ t) × (t ≤ horizon) × (t < total τs t) × ((s : ℕ) → least_deadline τs ≤ s → s < t → total τs s ≤ s)
 
 -- the smallest deadline of a right set is a task's, and none is smaller
@@ -35,13 +34,13 @@ IsInstant τs t = (τ : TaskRecord) × (i : ℕ) × Memᴰ τ τs × (t ≡ τ.d
 -- only instants need a visit: the first t that fails is one
 abbrev pub FirstMissAtInstant : Type 0
 FirstMissAtInstant =
-    (τs : List TaskRecord) (horizon t : ℕ) → right_tasks τs ≡ true → deadlines_of τs horizon ≡ Missed t → IsInstant τs t
+    (τs : List TaskRecord) (horizon t : ℕ) → right_tasks τs ≡ true → deadlines_of τs horizon ≡ Some t → IsInstant τs t
 
 -- so a set that passes at its instants passes at every t
 abbrev pub InstantsDecide : Type 0
 InstantsDecide =
     (τs : List TaskRecord) (horizon : ℕ) → right_tasks τs ≡ true → ((t : ℕ) → IsInstant τs t → t ≤ horizon → total τs t ≤ t)
-    → deadlines_of τs horizon ≡ Met
+    → deadlines_of τs horizon ≡ None
 
 -- the totals of a right set fit 52 bits
 abbrev pub TotalFits : Type 0

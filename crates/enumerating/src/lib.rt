@@ -1,12 +1,12 @@
 // The next fitting list of an accepted file of at most 16 basic blocks, by tables of its regions.
 #![tactic(auto)]
 
-ghost use Rattle.std.specs.Prelude.{◌≡◌, false, ◌&&◌, ◌+◌, ◌*◌, ◌^◌, ◌≤◌, ◌<◌, replicate};
+ghost use Rattle.std.specs.Prelude.{◌≡◌, ◌&&◌, ◌+◌, ◌*◌, ◌^◌, ◌≤◌, ◌<◌};
 ghost use Rattle.model.specs.Task.{block_count};
 ghost use Rattle.taskfile.specs.File.{IsAccepted, task_of};
 ghost use Rattle.reuse.specs.Counts.{NewLines};
 ghost use Rattle.enumerating.specs.Search.{next_found, next_in, if_fitting};
-ghost use Rattle.enumerating.specs.Table.{fit_in, number_in, Small, TableBefore, RegionTable};
+ghost use Rattle.enumerating.specs.Table.{fit_in, lines_in, cost_in, Small, TableBefore, RegionTable};
 
 use regions::CountedRegion;
 
@@ -18,11 +18,12 @@ pub struct FittingList {
     pub cost: u64,
 }
 
-// What a search finds.
+// A region of the table: whether it fits, its lines and its cost.
 #[derive(Clone, Copy)]
-pub enum Found {
-    NoMore,
-    Fitting(FittingList),
+pub struct Region {
+    pub fits: bool,
+    pub lines: u32,
+    pub cost: u64,
 }
 
 // The regions of a list up to an edge: whether all fit, where the next region starts, their lines
@@ -40,61 +41,34 @@ pub fn find_next(file: &[u8], start: u64) -> Option<FittingList>
     requires { IsAccepted file.now × (block_count (task_of file.now) ≤ 16) }
     ensures { result ≡ next_in (task_of file.now) start }
 {
-    let mut fits = [false; 272];
-    let mut lines = [0u32; 272];
-    let mut costs = [0u64; 272];
-    evaluate_regions(file, &mut fits, &mut lines, &mut costs);
-    next_fitting(&fits, &lines, &costs, taskfile::block_count(file), start)
+    let table = evaluate_regions(file);
+    next_fitting(&table, taskfile::block_count(file), start)
 }
 
-// Stores fit, lines and cost of each region in three arrays of zeros.
-pub fn evaluate_regions(
-    file: &[u8],
-    fits: &mut [bool; 272],
-    lines: &mut [u32; 272],
-    costs: &mut [u64; 272],
-)
-    requires accepted { IsAccepted file.now × (block_count (task_of file.now) ≤ 16) }
-    requires fits_value { (fits.old ≡ replicate 272 false) × (lines.old ≡ replicate 272 0) × (costs.old ≡ replicate 272 0) }
-    ensures { RegionTable (task_of file.now) fits.new lines.new costs.new }
+// The table of a file's regions: the one from edge a to edge b stands at place 17 a + b, and a region without lines and cost where there is none.
+pub fn evaluate_regions(file: &[u8]) -> [Region; 272]
+    requires { IsAccepted file.now × (block_count (task_of file.now) ≤ 16) }
+    ensures { RegionTable (task_of file.now) result }
 {
     let mut counts = [0u8; 4096];
     reuse::count_new_lines(file, &mut counts);
-    evaluate_rows(file, &counts, fits, lines, costs);
-}
-
-// The same, from the counts of new lines: the regions from each edge.
-fn evaluate_rows(
-    file: &[u8],
-    counts: &[u8; 4096],
-    fits: &mut [bool; 272],
-    lines: &mut [u32; 272],
-    costs: &mut [u64; 272],
-)
-    requires new_lines { NewLines file.now counts.now × (block_count (task_of file.now) ≤ 16) }
-    requires fits_value { (fits.old ≡ replicate 272 false) × (lines.old ≡ replicate 272 0) × (costs.old ≡ replicate 272 0) }
-    ensures { RegionTable (task_of file.now) fits.new lines.new costs.new }
-{
+    let mut table = [Region {
+        fits: false,
+        lines: 0,
+        cost: 0,
+    }; 272];
     let n = taskfile::block_count(file);
-    let mut a = 0;
-    while a < n {
-        evaluate_row(file, counts, fits, lines, costs, a);
-        a += 1;
+    for a in 0..n {
+        evaluate_row(file, &counts, &mut table, a);
     }
+    table
 }
 
 // The regions from edge a.
-fn evaluate_row(
-    file: &[u8],
-    counts: &[u8; 4096],
-    fits: &mut [bool; 272],
-    lines: &mut [u32; 272],
-    costs: &mut [u64; 272],
-    a: usize,
-)
+fn evaluate_row(file: &[u8], counts: &[u8; 4096], table: &mut [Region; 272], a: usize)
     requires new_lines { NewLines file.now counts.now × (block_count (task_of file.now) ≤ 16) × (a < block_count (task_of file.now)) }
-    requires table_before { TableBefore (17 * a) (task_of file.now) fits.old lines.old costs.old }
-    ensures { TableBefore (17 * a + 17) (task_of file.now) fits.new lines.new costs.new }
+    requires table_before { TableBefore (17 * a) (task_of file.now) table.old }
+    ensures { TableBefore (17 * a + 17) (task_of file.now) table.new }
 {
     let n = taskfile::block_count(file);
     let header = taskfile::header(file);
@@ -102,46 +76,32 @@ fn evaluate_row(
     while region.to < n {
         region = region.longer(file, counts);
         let weighed = region.weigh(header);
-        let at = 17 * a + region.to;
-        fits[at] = weighed.fits;
-        lines[at] = region.lines;
-        costs[at] = weighed.cost;
+        table[17 * a + region.to] = Region {
+            fits: weighed.fits,
+            lines: region.lines,
+            cost: weighed.cost,
+        };
     }
 }
 
-// The same search by the arrays: each number is looked at once.
-pub fn next_fitting(
-    fits: &[bool; 272],
-    lines: &[u32; 272],
-    costs: &[u64; 272],
-    blocks: usize,
-    start: u64,
-) -> Option<FittingList>
-    requires { (1 ≤ blocks) × (blocks ≤ 16) × Small lines.now costs.now }
-    ensures { result ≡ next_found (fit_in fits.now) (number_in lines.now) (number_in costs.now) blocks start }
+// The same search by the table: each number is looked at once.
+pub fn next_fitting(table: &[Region; 272], blocks: usize, start: u64) -> Option<FittingList>
+    requires { (1 ≤ blocks) × (blocks ≤ 16) × Small table.now }
+    ensures { result ≡ next_found (fit_in table.now) (lines_in table.now) (cost_in table.now) blocks start }
 {
     let end = 1u64 << (blocks - 1);
-    let mut number = start;
-    while number < end {
-        let found = if_fitting(fits, lines, costs, blocks, number);
-        let None = found else {
-            return found;
-        };
-        number += 1;
+    for number in start..end {
+        if let Some(list) = if_fitting(table, blocks, number) {
+            return Some(list);
+        }
     }
     None
 }
 
 // The list of a number if it fits: a walk along the bits, which ends a region at each point.
-fn if_fitting(
-    fits: &[bool; 272],
-    lines: &[u32; 272],
-    costs: &[u64; 272],
-    blocks: usize,
-    number: u64,
-) -> Option<FittingList>
-    requires { (1 ≤ blocks) × (blocks ≤ 16) × Small lines.now costs.now }
-    ensures { result ≡ if_fitting (fit_in fits.now) (number_in lines.now) (number_in costs.now) blocks number }
+fn if_fitting(table: &[Region; 272], blocks: usize, number: u64) -> Option<FittingList>
+    requires { (1 ≤ blocks) × (blocks ≤ 16) × Small table.now }
+    ensures { result ≡ if_fitting (fit_in table.now) (lines_in table.now) (cost_in table.now) blocks number }
 {
     let mut walk = Walk {
         fits: true,
@@ -150,15 +110,13 @@ fn if_fitting(
         cost: 0,
     };
     let mut rest = number;
-    let mut to = 1;
-    while to < blocks {
+    for to in 1..blocks {
         if rest % 2 == 1 {
-            walk = walk.ended(fits, lines, costs, to);
+            walk = walk.ended(table, to);
         }
         rest = rest / 2;
-        to += 1;
     }
-    let whole = walk.ended(fits, lines, costs, blocks);
+    let whole = walk.ended(table, blocks);
     if whole.fits {
         Some(FittingList {
             number,
@@ -172,24 +130,20 @@ fn if_fitting(
 
 impl Walk {
     // Ends the next region at an edge.
-    fn ended(self, fits: &[bool; 272], lines: &[u32; 272], costs: &[u64; 272], to: usize) -> Self
-        requires small { Small lines.now costs.now × (self.from < to) × (to ≤ 16) }
+    fn ended(self, table: &[Region; 272], to: usize) -> Self
+        requires small { Small table.now × (self.from < to) × (to ≤ 16) }
         requires lines_bound { (self.lines ≤ 512 * self.from) × (self.cost ≤ 2 ^ 48 * self.from) }
-        ensures fits_value { result.fits ≡ (self.fits && fit_in fits.now self.from to) }
+        ensures fits_value { result.fits ≡ (self.fits && fit_in table.now self.from to) }
         ensures from_value { result.from ≡ to }
-        ensures lines_value { result.lines ≡ self.lines + number_in lines.now self.from to }
-        ensures cost_value { result.cost ≡ self.cost + number_in costs.now self.from to }
+        ensures lines_value { result.lines ≡ self.lines + lines_in table.now self.from to }
+        ensures cost_value { result.cost ≡ self.cost + cost_in table.now self.from to }
     {
-        let from = self.from;
-        let at = 17 * from + to;
-        let fit = fits[at];
-        let line = lines[at];
-        let cost = costs[at];
+        let region = table[17 * self.from + to];
         Walk {
-            fits: self.fits & fit,
+            fits: self.fits & region.fits,
             from: to,
-            lines: self.lines + line,
-            cost: self.cost + cost,
+            lines: self.lines + region.lines,
+            cost: self.cost + region.cost,
         }
     }
 }

@@ -3,6 +3,7 @@
 
 ghost use Rattle.std.specs.Prelude.{◌≤◌};
 
+use std::cmp::min;
 use std::io;
 
 // A number below 2^32, which each argument is asked to be, in four bytes.
@@ -14,26 +15,15 @@ fn four_bytes(number: u64) -> u32 {
 fn file_length(blocks: u32, preempters: u32) -> usize
     ensures { result ≤ 65536 }
 {
-    let length = 512 * (1 + blocks as usize + preempters as usize);
-    if length < 65536 { length } else { 65536 }
+    min(512 * (1 + blocks as usize + preempters as usize), 65536)
 }
 
 // Writes the file, or says why there is none.
-fn write_file(rt: &(impl Print + Eprint), given: [u64; 6], file: &mut [u8]) -> io::Result<()> {
-    let verdict = testload::generate(
-        four_bytes(given[0]),
-        four_bytes(given[1]),
-        four_bytes(given[2]),
-        four_bytes(given[3]),
-        four_bytes(given[4]),
-        four_bytes(given[5]),
-        file,
-    );
-    match verdict {
+fn write_file(rt: &(impl Print + Eprint), given: [u32; 6], file: &mut [u8]) -> io::Result<()> {
+    let [seed, blocks, preempters, line_count, limit, reload] = given;
+    match testload::generate(seed, blocks, preempters, line_count, limit, reload, file) {
         Ok(()) => desk::print(rt, file),
-        Err(refusal) => {
-            desk::report_refusal(rt, refusal, answers::refusal_place(refusal))
-        }
+        Err(refusal) => desk::report_refusal(rt, refusal, refusal.place()),
     }
 }
 
@@ -46,6 +36,7 @@ fn main(rt: HostRuntime) -> io::Result<()> {
         );
     }
     let mut file = [0u8; 65536];
-    let n = file_length(four_bytes(given[1]), four_bytes(given[2]));
-    write_file(&rt, given, &mut file[..n])
+    let numbers = given.map(four_bytes);
+    let n = file_length(numbers[1], numbers[2]);
+    write_file(&rt, numbers, &mut file[..n])
 }

@@ -3,6 +3,7 @@
 
 ghost use Rattle.std.specs.Prelude.{◌≤◌};
 
+use std::cmp::min;
 use std::io;
 
 // The bytes of the joined file: both, with one header. Where they are more than the largest buffer has, joining refuses all the same.
@@ -10,12 +11,7 @@ fn joined_length(first: usize, second: usize) -> usize
     requires { (first ≤ 65536) × (second ≤ 65536) }
     ensures { result ≤ 65536 }
 {
-    let both = first + second;
-    if both < 512 {
-        return 0;
-    }
-    let length = both - 512;
-    if length < 65536 { length } else { 65536 }
+    min((first + second).saturating_sub(512), 65536)
 }
 
 // Writes the joined file, or says why there is none.
@@ -25,11 +21,9 @@ fn write_joined(
     second: &[u8],
     out: &mut [u8],
 ) -> io::Result<()> {
-    let joined = joining::join(first, second, out);
-    let verdict = joined.verdict;
-    match verdict {
+    match joining::join(first, second, out) {
         Ok(()) => desk::print(rt, out),
-        Err(refusal) => desk::report_refusal(rt, refusal, joined.place),
+        Err(refused) => desk::report_refusal(rt, refused.refusal, refused.place),
     }
 }
 

@@ -75,6 +75,12 @@ room-accepts n m size e =
     let both = both-accepted (totals_row n m) (output_row (file_size n m) size) e in
     record { fit = row-holds TooManyBlocks _ both.0; long = output-size (file_size n m) size both.1 }
 
+-- the rows in their order, of a task with N and M such
+pub rows-are : (t u : Task) {n m size : ℕ} (long : ℕ) {a b c : Verdict} → n ≡ block_count (joined t u) → m ≡ length (joined t u).preempters
+    → a ≡ agree_row t u → b ≡ totals_row n m → size ≡ file_size n m → c ≡ output_row size long → and_then a (and_then b c) ≡ join_rows t u long
+unfolding join_rows
+rows-are t u long n-is m-is a b s c = rw (a, b, c, s, n-is, m-is)
+
 -- and all rows
 pub record RowsAccept (t u : Task) (size : ℕ) : Type 0 where
   pub agreed : agree t u ≡ true
@@ -85,10 +91,6 @@ unfolding join_rows agree_row
 rows-accept t u size e =
     let both = both-accepted (agree_row t u) _ e in
     record { agreed = row-holds Mismatch _ both.0; room = room-accepts _ _ size both.1 }
-
--- if two rows together accept, the second one accepts
-pub second-accepts : (v a b : Verdict) → v ≡ and_then a b → v ≡ accept → b ≡ accept
-second-accepts v a b e h = (both-accepted a b (sym e ∙ h)).1
 
 -- the joined task is within the limits of a file
 pub within-joined : (t u : Task) → Within t → Within u → counts_fit (block_count (joined t u)) (length (joined t u).preempters) ≡ true

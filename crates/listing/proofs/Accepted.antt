@@ -1,5 +1,4 @@
 -- What the verdict on a file says of it, and of what is found in it. Assumes nothing.
-use Rattle.std.specs.Prelude.{Err, None}
 use Rattle.model.specs.Answers.{accept}
 use Prim.Native.Nat.{ℕ, ◌≤◌, ◌<◌}
 use mathlib.Core.Path.{◌≡◌}
@@ -7,7 +6,6 @@ use mathlib.Core.List.{List}
 use native.Mathlib.Omega.{arith}
 use borrow.Author.Tests.{leb-true}
 use Rattle.model.specs.Task.{block_count}
-use Rattle.model.specs.declared.Refusal.{Refusal}
 use Rattle.model.specs.declared.Refusal.TheVariants.{LongTask}
 use Rattle.model.proofs.Verdicts.{both-accepted, row-holds}
 use Rattle.taskfile.specs.File.{IsAccepted, verdict, task_of}
@@ -31,8 +29,3 @@ module _ (file : List ℕ) (listed : list_verdict file ≡ accept) where
   pub next-listed : (start : ℕ) → next_of file start ≡ next_in (task_of file) start
   unfolding next_of
   next-listed start = rw listed
-
--- a file that is refused has no list
-pub next-refused : (file : List ℕ) (start : ℕ) {x : Refusal} → list_verdict file ≡ Err x → next_of file start ≡ None
-unfolding next_of
-next-refused file start e = rw e

@@ -1,12 +1,16 @@
 -- What the call answers to any bytes and any start (document 02, item 12): refusals 1 to 5 of the
 -- file, then 15 at 0. Assumes nothing.
-use Rattle.std.specs.Prelude.{ℕ, ◌-◌, cond, List, [], ◌++◌, leb, length, replicate, Err, None, Option, Some}
+use Rattle.std.specs.Prelude.{ℕ, ◌-◌, cond, List, [], ◌++◌, leb, length, replicate, Err, None, Option, Result, Some}
+use Rattle.std.specs.Option.{option_map}
 use Rattle.model.specs.Task.{block_count}
-use Rattle.model.specs.Answers.{accept, Verdict, on_accepted, and_then}
+use Rattle.model.specs.Answers.{accept, Verdict, on_accepted, and_then, answered}
+use Rattle.model.specs.declared.Refusal.{Refusal}
 use Rattle.model.specs.declared.Refusal.TheVariants.{LongTask}
 use Rattle.taskfile.specs.File.{verdict, task_of}
 use Rattle.enumerating.specs.Numbers.{list_of}
 use Rattle.enumerating.specs.Search.{next_in}
+use Rattle.enumerating.specs.declared.FittingList.{FittingList}
+use Rattle.listing.specs.declared.NextList.{NextList}
 
 -- refusal 15: more than 16 basic blocks
 unfoldable pub list_verdict : List ℕ → Verdict
@@ -28,3 +32,11 @@ next_points file start = points_found (block_count (task_of file)) (next_of file
 -- a list of points in an array of 16, zeros after them
 abbrev pub in_array : List ℕ → List ℕ
 in_array ps = ps ++ replicate (16 - length ps) 0
+
+-- a list with its points in an array, for n blocks
+abbrev pub with_points : ℕ → FittingList → NextList
+with_points n l = record { list = l; points = record { count = length (list_of n l.number); points = in_array (list_of n l.number) } }
+
+-- what the call answers: the next fitting list with its points, if there is one, or the refusal
+unfoldable pub next_answer : List ℕ → ℕ → Result (Option NextList) Refusal
+next_answer file start = answered (list_verdict file) (option_map (with_points (block_count (task_of file))) (next_of file start))

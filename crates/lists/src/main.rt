@@ -7,6 +7,7 @@ ghost use Rattle.model.specs.Answers.{accept};
 ghost use Rattle.enumerating.specs.Table.{Small};
 ghost use Rattle.listing.specs.Calls.{list_verdict};
 
+use enumerating::Region;
 use std::io;
 
 // Appends a number, a space and a cost to what a page holds.
@@ -24,41 +25,28 @@ fn collect_line(
 }
 
 // What the call finds from 0, and then from one above the last number.
-fn print_all(
-    rt: &impl Print,
-    fits: &[bool; 272],
-    lines: &[u32; 272],
-    costs: &[u64; 272],
-    blocks: usize,
-) -> io::Result<()>
-    requires { (1 ≤ blocks) × (blocks ≤ 16) × Small lines.now costs.now }
+fn print_all(rt: &impl Print, table: &[Region; 272], blocks: usize) -> io::Result<()>
+    requires { (1 ≤ blocks) × (blocks ≤ 16) × Small table.now }
 {
     let mut page = [0u8; 4096];
     let mut held = 0;
     let mut start = 0;
-    loop {
-        let found = enumerating::next_fitting(fits, lines, costs, blocks, start);
-        let Some(list) = found else {
-            return desk::print_page(rt, &page, held);
-        };
+    while let Some(list) = enumerating::next_fitting(table, blocks, start) {
         held = collect_line(rt, &mut page, held, list.number, list.cost)?;
         start = list.number + 1;
     }
+    desk::print_page(rt, &page, held)
 }
 
 fn print_lists(rt: &impl Print, file: &[u8]) -> io::Result<()>
     requires { list_verdict file.now ≡ accept }
 {
-    let mut fits = [false; 272];
-    let mut lines = [0u32; 272];
-    let mut costs = [0u64; 272];
-    enumerating::evaluate_regions(file, &mut fits, &mut lines, &mut costs);
-    print_all(rt, &fits, &lines, &costs, taskfile::block_count(file))
+    let table = enumerating::evaluate_regions(file);
+    print_all(rt, &table, taskfile::block_count(file))
 }
 
 fn print_answer(rt: &impl Print, file: &[u8]) -> io::Result<()> {
-    let verdict = listing::check(file);
-    match verdict {
+    match listing::check(file) {
         Ok(()) => print_lists(rt, file),
         Err(refusal) => desk::print_refusal(rt, refusal),
     }

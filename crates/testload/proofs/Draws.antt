@@ -2,10 +2,10 @@
 -- Assumes nothing.
 use Prim.Native.Nat.{ℕ, zero, suc, ◌+◌, ◌*◌, ◌%◌, ◌^◌, ◌<◌, ◌≤◌}
 use mathlib.Core.Path.{◌≡◌, refl, ap, ◌∙◌}
-use mathlib.Core.List.{List, [], ◌∷◌, ◌++◌, map, map-append}
+use mathlib.Core.List.{List, [], ◌∷◌, ◌++◌, map}
 use native.Mathlib.Nat.{zero-add, add-zero, add-suc, suc-add}
 use native.Mathlib.Omega.{arith}
-use lib.ListN.{length, take, length-map}
+use lib.ListN.{length, take}
 use borrow.Rule.Slice.PartMut.{put_mid}
 use Rattle.block.specs.Bytes.{Each}
 use Rattle.block.specs.Blocks.{numbered}
@@ -36,14 +36,20 @@ unfolding drawn_number
 number_more j s current drawn bs new e c d p = p ∙ rw (drawn-snoc drawn_number next 0 j s, e, d, c)
 
 -- one block more is appended, in the part of w bytes behind those that are
-pub block_more : {A : Type 0} (h : A → List ℕ) (g : ℕ → ℕ → A) (f : ℕ → ℕ) (k n s current w : ℕ) (old out part : List ℕ) → (1 + k + n) * 512 ≤ length out
-    → length part ≡ 512 → Appended k (map h (drawn_list g f 0 n s)) old out → current ≡ after f n s → take 508 part ≡ numbered (1 + k + n) (h (g n current))
-    → Appended k (map h (drawn_list g f 0 (suc n) s)) old (put_mid ((1 + k + n) * 512) w out part)
-block_more h g f k n s current w old out part room long before e p =
-    let count : length (map h (drawn_list g f 0 n s)) ≡ n = length-map (drawn_list g f 0 n s) h ∙ length-drawn g f 0 n s in
-    rw (drawn-snoc g f 0 n s, map-append, zero-add)
-    (appended-more k ((1 + k + n) * 512) w (map h (drawn_list g f 0 n s)) (h (g n (after f n s))) old out part (omega arith) room (omega arith) before
+pub block_more : (g : ℕ → ℕ → List ℕ) (f : ℕ → ℕ) (k n s current w : ℕ) (old out part : List ℕ) → (1 + k + n) * 512 ≤ length out
+    → length part ≡ 512 → Appended k (drawn_list g f 0 n s) old out → current ≡ after f n s → take 508 part ≡ numbered (1 + k + n) (g n current)
+    → Appended k (drawn_list g f 0 (suc n) s) old (put_mid ((1 + k + n) * 512) w out part)
+block_more g f k n s current w old out part room long before e p =
+    let count = length-drawn g f 0 n s in
+    rw (drawn-snoc g f 0 n s, zero-add)
+    (appended-more k ((1 + k + n) * 512) w (drawn_list g f 0 n s) (g n (after f n s)) old out part (omega arith) room (omega arith) before
     (rw (count, ← e) p))
+
+-- the bytes of things drawn are things drawn
+pub map-drawn : {A B : Type 0} (h : A → B) (g : ℕ → ℕ → A) (f : ℕ → ℕ) (i n s : ℕ) → map h (drawn_list g f i n s) ≡ drawn_list (λ j t. h (g j t)) f i n s
+unfolding drawn_list
+map-drawn h g f i zero s = refl
+map-drawn h g f i (suc n) s = ap (λ (r : List _). h (g i s) ∷ r) (map-drawn h g f (suc i) n (f s))
 
 -- what holds of each thing drawn, whose indices are below k
 each-drawn : {A : Type 0} (P : A → Type 0) (g : ℕ → ℕ → A) (f : ℕ → ℕ) (i n k s : ℕ) → i + n ≤ k → ((j t : ℕ) → j < k → P (g j t))

@@ -1,7 +1,7 @@
 -- Every file made is accepted, and its task is the drawn one: the drawn task is within the limits of a file.
 -- Assumes nothing.
-use Prim.Native.Nat.{ℕ, ◌+◌, ◌*◌, ◌^◌, ◌<◌}
-use mathlib.Core.Path.{◌≡◌, refl, sym, ◌∙◌}
+use Prim.Native.Nat.{ℕ, ◌+◌, ◌*◌, ◌^◌, ◌<◌, ◌≤◌}
+use mathlib.Core.Path.{◌≡◌, refl, sym, subst, ◌∙◌}
 use mathlib.Core.Bool.{true}
 use mathlib.Core.List.{List, map}
 use native.Mathlib.Nat.{zero-add}
@@ -19,7 +19,7 @@ use Rattle.writer.proofs.Laws.{appended-both, task-closed}
 use Rattle.testload.specs.Draws.{after, drawn_list, after_reads, drawn_block, after_block, drawn_preempter, drawn_header, drawn_task}
 use Rattle.testload.specs.Calls.{counts_row, generate_verdict, generated}
 use Rattle.testload.specs.Statements.{GeneratedAccepted}
-use Rattle.testload.proofs.Draws.{length-drawn, blocks-within, preempters-within}
+use Rattle.testload.proofs.Draws.{length-drawn, map-drawn, blocks-within, preempters-within}
 
 -- the drawn task has N basic blocks and M preempters
 counts-drawn : (seed n m s q r : ℕ) → let t = drawn_task seed n m s q r in (length t.blocks ≡ n) × (length t.preempters ≡ m)
@@ -39,9 +39,11 @@ module _ (seed n m s q r : ℕ) (ok : counts_in_range n m s ≡ true) where
         preempters = preempters-within after_reads m (after after_block n seed) range.2;
       }
 
--- what `put_task` leaves: the basic blocks are drawn, then the preempters from the state after them, and the file is closed
-pub task-put : (seed n m s q r state : ℕ) (out basic all new : List ℕ) → Appended 0 (map basic_bytes (drawn_list drawn_block after_block 0 n seed)) out basic
-    → state ≡ after after_block n seed → Appended n (map preempter_bytes (drawn_list drawn_preempter after_reads 0 m state)) basic all
+-- what is left where both tests accept: the basic blocks are drawn, then the preempters from the state after them, and the file is closed
+pub task-put : (seed n m s q r state : ℕ) (out basic all new : List ℕ)
+    → Appended 0 (drawn_list (λ i t. basic_bytes (drawn_block i t)) after_block 0 n seed) out basic
+    → state ≡ after after_block n seed
+    → Appended n (drawn_list (λ i t. preempter_bytes (drawn_preempter i t)) after_reads 0 m state) basic all
     → new ≡ closed_file n m (drawn_header seed s q r) all → new ≡ file_of (drawn_task seed n m s q r)
 unfolding drawn_task
 task-put seed n m s q r state out basic all new pb es pp e =
@@ -49,7 +51,10 @@ task-put seed n m s q r state out basic all new pb es pp e =
     let counts = counts-drawn seed n m s q r in
     let bs : List (List ℕ) = map basic_bytes t.blocks in
     let behind : n ≡ 0 + length bs = sym counts.0 ∙ sym (length-map t.blocks basic_bytes) ∙ sym (zero-add (length bs)) in
-    e ∙ task-closed t n m out all (sym counts.0) (sym counts.1) (appended-both 0 bs (map preempter_bytes t.preempters) out basic all pb (rw (behind, es) at pp))
+    let first : Appended 0 bs out basic = rw (map-drawn basic_bytes drawn_block after_block 0 n seed) pb in
+    let second : Appended n (map preempter_bytes t.preempters) basic all =
+    rw (map-drawn preempter_bytes drawn_preempter after_reads 0 m (after after_block n seed), ← es) pp in
+    e ∙ task-closed t n m out all (sym counts.0) (sym counts.1) (appended-both 0 bs (map preempter_bytes t.preempters) out basic all first (subst (λ (k : ℕ). Appended k (map preempter_bytes t.preempters) basic all) behind second))
 
 -- of an accepted call the counts are in range, and the buffer has the file's length
 pub accepted-rows : (n m s : ℕ) (out : List ℕ) → generate_verdict n m s out ≡ accept
@@ -58,6 +63,16 @@ unfolding generate_verdict counts_row
 accepted-rows n m s out e =
     let both = both-accepted (counts_row n m s) (output_row (file_size n m) (length out)) e in
     (row-holds OutOfRange _ both.0, output-size (file_size n m) (length out) both.1)
+
+-- where both rows accept, the call does: N, M and S are in range, and the buffer has the file's length
+pub rows-accepted : {n m s size : ℕ} (out : List ℕ) → accept ≡ counts_row n m s → size ≡ file_size n m → accept ≡ output_row size (length out)
+    → (generate_verdict n m s out ≡ accept) × (n ≤ 64) × (m ≤ 32) × (s ≤ 512) × (length out ≡ 512 * (1 + n + m))
+unfolding generate_verdict
+rows-accepted {n} {m} {s} out counts size output =
+    let passed : generate_verdict n m s out ≡ accept = rw (← counts, ← size, ← output) in
+    let rows = accepted-rows n m s out passed in
+    let range = counts-range n m s rows.0 in
+    (passed, range.1, range.2, range.4, rows.1)
 
 pub generated-accepted : GeneratedAccepted
 unfolding generated

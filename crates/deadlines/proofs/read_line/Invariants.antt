@@ -1,9 +1,5 @@
--- `deadlines::read_line` is safe and ends: a field begins at most one byte behind the line.
-use Rattle.std.proofs.Common.{length, ◌+◌, ◌-◌, ◌≤◌}
+-- `deadlines::read_line` is safe and ends: fields can be asked for one after another.
 use Rattle.deadlines.proofs.read_line.Given as goal
 
-abbrev pub invariant-loop-i : goal.invariant-loop-i
-invariant-loop-i l = (l.i ≤ 4) × (l.at ≤ length l.line + 1)
-
-abbrev pub decreases-loop-i : goal.decreases-loop-i
-decreases-loop-i l = 4 - l.i
+abbrev pub invariant-loop-number : goal.invariant-loop-number
+invariant-loop-number l = (goal.iterator-loop-number).can_next l.fields × (goal.iterator-loop-number).is_finite l.fields

@@ -1,7 +1,7 @@
 -- `demand::first_miss` meets its contract. The loop's invariant, of every right set whose fields the arrays hold, is `Visiting`; beside it, what blocks stays
 -- as long as it is said to.
 use Prim.Native.Nat.{ℕ, ◌<◌}
-use mathlib.Core.Path.{sym}
+use mathlib.Core.Path.{sym, ◌∙◌}
 use native.Mathlib.Omega.{arith}
 use lib.ListN.{take}
 use Rattle.demand.proofs.Filling.{filled-all}
@@ -11,34 +11,35 @@ use Rattle.demand.proofs.first_miss.Goals as goal
 use Rattle.demand.proofs.first_miss.Goals.{At-loop-t}
 
 arrays : (at : goal.At-loop-t)
-    → Arrays (take at.args.set.count at.args.set.tasks) at.args.set.count at.spread-columns.result.executions at.spread-columns.result.periods at.spread-columns.result.deadlines at.spread-columns.result.regions
+    → Arrays (take at.args.set.count at.args.set.tasks) at.spread-columns.result.count at.spread-columns.result.executions at.spread-columns.result.periods at.spread-columns.result.deadlines at.spread-columns.result.regions
 arrays at =
     let counted = set-counted _ _ at.requires.0 in
     let spread = at.spread-columns.ensures.spread in
-    let all = at.spread-columns.ensures.count_value in
+    let counts = at.spread-columns.ensures.count_value in
+    let all = counts.0 ∙ counts.1 in
     record {
       all = all;
-      few = counted.most;
+      few = omega (arith, counts.0, counted.most);
       right = counted.right;
-      executions = filled-all _ _ _ _ (omega (arith, all)) spread.executions;
-      periods = filled-all _ _ _ _ (omega (arith, all)) spread.periods;
-      deadlines = filled-all _ _ _ _ (omega (arith, all)) spread.deadlines;
-      regions = filled-all _ _ _ _ (omega (arith, all)) spread.regions;
+      executions = filled-all _ _ _ _ (omega (arith, counts.1)) spread.executions;
+      periods = filled-all _ _ _ _ (omega (arith, counts.1)) spread.periods;
+      deadlines = filled-all _ _ _ _ (omega (arith, counts.1)) spread.deadlines;
+      regions = filled-all _ _ _ _ (omega (arith, counts.1)) spread.regions;
     }
 
 pub spread-columns-requires : goal.spread-columns-requires
 spread-columns-requires c = (set-counted _ _ c.requires.0).most
 
-pub least-t-requires : goal.least-t-requires
-least-t-requires c = (set-counted _ _ c.requires.0).most
+pub least_deadline-t-requires : goal.least_deadline-t-requires
+least_deadline-t-requires c = omega (arith, c.spread-columns.ensures.count_value.0, (set-counted _ _ c.requires.0).most)
 
 pub loop-t-init : goal.loop-t-init
-loop-t-init c = (λ τs a. visiting-first τs _ _ _ _ _ a _ c.least-t.ensures, λ s l u. absurd (omega arith))
+loop-t-init c = (λ τs a. visiting-first τs _ _ _ _ _ a _ c.least_deadline-t.ensures, λ s l u. absurd (omega arith))
 
 pub pass-passed-requires : goal.pass-passed-requires
 pass-passed-requires c =
     let a = arrays (goal.at.pass-passed-requires c).At-loop-t in
-    let ranges : (k : ℕ) → k < c.args.set.count → Ranges _ = λ k l. lane-ranges _ a.right k (omega (arith, a.all)) in (
+    let ranges : (k : ℕ) → k < c.spread-columns.result.count → Ranges _ = λ k l. lane-ranges _ a.right k (omega (arith, a.all)) in (
       λ k l. omega (arith, a.executions.holds k (omega (arith, a.all)), (ranges k l).execution),
       λ k l. omega (arith, a.periods.holds k (omega (arith, a.all)), (ranges k l).period.1),
       (c.loop-t.invariant.0 _ a).waiting.long,

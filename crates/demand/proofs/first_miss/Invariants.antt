@@ -9,7 +9,7 @@ use Rattle.demand.proofs.first_miss.Given as goal
 
 abbrev pub invariant-loop-t : goal.invariant-loop-t
 invariant-loop-t l =
-    ((τs : List TaskRecord) → Arrays τs l.count l.executions l.periods l.deadlines l.regions → Visiting τs l.instants l.demand l.t) × BlockedUntil l.count l.deadlines l.regions l.t l.blocked
+    ((τs : List TaskRecord) → Arrays τs l.columns.count l.columns.executions l.columns.periods l.columns.deadlines l.columns.regions → Visiting τs l.instants l.demand l.t) × BlockedUntil l.columns.count l.columns.deadlines l.columns.regions l.t l.blocked
 
 abbrev pub decreases-loop-t : goal.decreases-loop-t
 decreases-loop-t l =

@@ -1,12 +1,11 @@
 -- `enumerating::evaluate_row` meets its contract. The loop's invariant: the region starts at edge
--- a, and the arrays hold the regions up to its end.
+-- a, and the table holds the regions up to its end.
 use Prim.Native.Nat.{suc, ◌+◌, ◌*◌, ◌<◌}
 use mathlib.Core.Path.{◌≡◌, ◌∙◌}
 use native.Mathlib.Omega.{arith}
 use Rattle.taskfile.specs.File.{task_of}
 use Rattle.enumerating.proofs.Filling.{table_same, table_more}
 use Rattle.enumerating.proofs.evaluate_row.Goals as goal
-use Rattle.enumerating.proofs.evaluate_row.Goals.{After-struct_known-in-loop-region-1}
 
 pub block_count-n-requires : goal.block_count-n-requires
 block_count-n-requires c = c.requires.new_lines.0.accepted
@@ -33,33 +32,6 @@ weigh-weighed-requires c =
     let counted = c.longer-region.ensures.0 in
     (omega (arith, counted.run.small, counted.within, c.requires.new_lines.1), counted.few)
 
-pub overflow_mul-at : goal.overflow_mul-at
-overflow_mul-at c = omega (arith, c.requires.new_lines.1, c.requires.new_lines.2)
-
--- the place of the region in the arrays
-below : (c : goal.After-struct_known-in-loop-region-1)
-    → 17 * c.args.a + c.longer-region.result.to < 272
-below c =
-    omega (arith, c.requires.new_lines.1, c.requires.new_lines.2, c.longer-region.ensures.0.within)
-
-pub overflow_add-at : goal.overflow_add-at
-overflow_add-at c = omega (arith, below (goal.at.overflow_add-at c).After-struct_known-in-loop-region-1)
-
-pub bounds-fits-at : goal.bounds-fits-at
-bounds-fits-at c = omega (arith, below (goal.at.bounds-fits-at c).After-struct_known-in-loop-region-1)
-
-pub offset_bounds-lines-at : goal.offset_bounds-lines-at
-offset_bounds-lines-at c = omega (arith, below (goal.at.offset_bounds-lines-at c).After-struct_known-in-loop-region-1)
-
-pub bounds-lines-at : goal.bounds-lines-at
-bounds-lines-at c = omega (arith, below (goal.at.bounds-lines-at c).After-struct_known-in-loop-region-1)
-
-pub offset_bounds-costs-at : goal.offset_bounds-costs-at
-offset_bounds-costs-at c = omega (arith, below (goal.at.offset_bounds-costs-at c).After-struct_known-in-loop-region-1)
-
-pub bounds-costs-at : goal.bounds-costs-at
-bounds-costs-at c = omega (arith, below (goal.at.bounds-costs-at c).After-struct_known-in-loop-region-1)
-
 pub loop-region-smaller : goal.loop-region-smaller
 loop-region-smaller c = omega (arith, c.longer-region.ensures.2)
 
@@ -78,8 +50,9 @@ loop-region-preserved c =
       grown.0,
       grown.1 ∙ l.invariant.1,
       omega (arith, grown.2),
-      table_more c.requires.new_lines.1 a b (omega (arith, grown.2, l.invariant.0.rising, l.invariant.1)) grown.0.within _ _ _ (rw from at (weighs.fits t header_is grown.0))
-          (rw from at grown.0.lines) (rw from at (weighs.cost t header_is grown.0)) grown.0.few weighs.small (rw back at l.invariant.3),
+      table_more c.requires.new_lines.1 a b (omega (arith, grown.2, l.invariant.0.rising, l.invariant.1)) grown.0.within _
+          (cc (rw from at (weighs.fits t header_is grown.0), rw from at grown.0.lines, rw from at (weighs.cost t header_is grown.0))) grown.0.few weighs.small
+          (rw back at l.invariant.3),
     )
 
 pub returns : goal.returns

@@ -6,7 +6,7 @@ use native.Mathlib.Nat.{one-mul}
 use native.Mathlib.Omega.{arith}
 use lib.Dec.{lit<}
 use lib.Pow.{shl_exact}
-use Rattle.enumerating.specs.Table.{fit_in, number_in}
+use Rattle.enumerating.specs.Table.{fit_in, lines_in, cost_in}
 use Rattle.enumerating.proofs.Searching.{reached-start, reached-next, reached-list, reached-end}
 use Rattle.enumerating.proofs.next_fitting.Goals as goal
 
@@ -14,22 +14,20 @@ pub loop-number-init : goal.loop-number-init
 loop-number-init c =
     let args = c.args in (
       shl_exact 1 (args.blocks - 1) 64 (lit< tt) (omega arith) ∙ one-mul _,
-      reached-start (fit_in args.fits.now) (number_in args.lines.now) (number_in args.costs.now) args.blocks args.start,
+      reached-start (fit_in args.table.now) (lines_in args.table.now) (cost_in args.table.now) args.blocks args.start,
     )
 
-pub if_fitting-found-requires : goal.if_fitting-found-requires
-if_fitting-found-requires c = c.requires
+pub if_fitting-requires : goal.if_fitting-requires
+if_fitting-requires c = c.requires
 
-pub returns-in_default : goal.returns-in_default
-returns-in_default c =
-    let told = c.in_default.is in
-    let l = c.loop-number in
-    told ∙ reached-list _ _ _ _ _ l.number l.invariant.1 (omega arith) (sym c.if_fitting-found.ensures ∙ told)
+pub returns-in-Some : goal.returns-in-Some
+returns-in-Some c =
+    let l = c.loop-number in reached-list _ _ _ _ _ l.number l.invariant.1 (omega arith) (sym c.in-Some.ensures)
 
 pub loop-number-preserved : goal.loop-number-preserved
 loop-number-preserved c =
     let l = c.loop-number in
-    (l.invariant.0, reached-next _ _ _ _ _ l.number l.invariant.1 (omega arith) (sym c.if_fitting-found.ensures ∙ c.in-None.is))
+    (l.invariant.0, reached-next _ _ _ _ _ l.number l.invariant.1 (omega arith) (sym c.in_default.ensures))
 
 pub returns : goal.returns
 returns c = reached-end _ _ _ _ _ c.loop-number.number c.loop-number.invariant.1 (omega arith)

@@ -7,7 +7,4 @@ use Rattle.enumerating.proofs.Searching.{Reached}
 use Rattle.enumerating.proofs.next_fitting.Given as goal
 
 abbrev pub invariant-loop-number : goal.invariant-loop-number
-invariant-loop-number l = (l.end ≡ 2 ^ (l.blocks - 1)) × Reached (fit_in l.fits) l.blocks l.start l.number
-
-abbrev pub decreases-loop-number : goal.decreases-loop-number
-decreases-loop-number l = l.end - l.number
+invariant-loop-number l = (l.end ≡ 2 ^ (l.blocks - 1)) × Reached (fit_in l.table) l.blocks l.start l.number

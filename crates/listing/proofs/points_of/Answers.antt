@@ -52,18 +52,16 @@ module _ {n m : ℕ} {points : List ℕ} {count to rest : ℕ} (few : n ≤ 16) 
       (many, sym (take-append-drop count points) ∙ ap₂ ◌++◌ (sym is) (r.beyond ∙ ap (λ (k : ℕ). replicate (16 - k) 0) many))
 
 pub loop-to-init : goal.loop-to-init
-loop-to-init c = (omega arith, record { edge = omega arith; long = refl; beyond = refl; so_far = refl })
+loop-to-init c = record { edge = omega arith; long = refl; beyond = refl; so_far = refl }
 
 pub loop-to-preserved : goal.loop-to-preserved
 loop-to-preserved c =
     let few = c.requires.1 in
-    let inv = c.loop-to.invariant.1 in (
-      omega arith,
-      elim c.if-bits-eq1.branch [
-        | then-bits-eq1 w ↦ rw (w.points-is, w.count-is) (collected-point few inv (omega arith) w.if-bits-eq1.true)
-        | else-bits-eq1 w ↦ rw (w.points-is, w.count-is) (collected-none few inv (omega arith) w.if-bits-eq1.false)
-      ],
-    )
+    let inv = c.loop-to.invariant in
+    elim c.if-bits-eq1.branch [
+      | then-bits-eq1 w ↦ rw (w.points-is, w.count-is) (collected-point few inv (omega arith) w.if-bits-eq1.true)
+      | else-bits-eq1 w ↦ rw (w.points-is, w.count-is) (collected-none few inv (omega arith) w.if-bits-eq1.false)
+    ]
 
 pub returns : goal.returns
-returns c = collected-all c.requires.1 c.loop-to.invariant.1 (omega arith)
+returns c = collected-all c.requires.1 c.loop-to.invariant (omega arith)

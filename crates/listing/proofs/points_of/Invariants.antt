@@ -1,5 +1,5 @@
 -- `listing::points_of` meets its contract. The loop's invariant: the points so far and those that are left make the whole list.
-use Prim.Native.Nat.{ℕ, ◌-◌, ◌≤◌, ◌<◌}
+use Prim.Native.Nat.{ℕ, ◌-◌, ◌<◌}
 use mathlib.Core.Path.{◌≡◌}
 use mathlib.Core.List.{List, ◌++◌}
 use lib.ListN.{length, take, drop, replicate}
@@ -15,8 +15,4 @@ pub record Collected (n m : ℕ) (points : List ℕ) (count to rest : ℕ) : Typ
   pub so_far : list_of n m ≡ take count points ++ left n to rest
 
 abbrev pub invariant-loop-to : goal.invariant-loop-to
-invariant-loop-to l =
-    (l.to ≤ l.blocks) × Collected l.blocks l.number l.points l.count l.to l.bits
-
-abbrev pub decreases-loop-to : goal.decreases-loop-to
-decreases-loop-to l = l.blocks - l.to
+invariant-loop-to l = Collected l.blocks l.number l.points l.count l.to l.bits

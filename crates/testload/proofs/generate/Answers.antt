@@ -1,29 +1,39 @@
 -- `testload::generate` meets its contract: where both tests accept, the task is drawn.
-use mathlib.Core.Path.{◌≡◌, refl, sym, ap₂, ◌∙◌}
-use Rattle.model.specs.Answers.{and_then}
-use Rattle.taskfile.proofs.Accepted.{counts-range}
-use Rattle.testload.specs.Calls.{generate_verdict, generated}
-use Rattle.testload.proofs.Files.{accepted-rows}
+use Rattle.std.proofs.Common.{refl, arith}
+use Rattle.testload.specs.Calls.{generated}
+use Rattle.testload.proofs.Files.{rows-accepted, task-put}
 use Rattle.testload.proofs.generate.Goals as goal
-use Rattle.testload.proofs.generate.Goals.{After-earlier-verdict}
 
--- the verdict is the one that the contract states
-decided : (c : goal.After-earlier-verdict) → let args = c.args in
-    c.earlier-verdict.result ≡ generate_verdict args.blocks args.preempters c.args.line_count args.out.now
-unfolding generate_verdict
-decided c = c.earlier-verdict.ensures ∙ ap₂ and_then c.check_counts-counts.ensures (c.check_output-output.ensures ∙ rw c.file_size-size.ensures)
+pub overflow_cast-header : goal.overflow_cast-header
+overflow_cast-header c =
+    let all = rows-accepted _ c.in_ok-check_counts.ensures c.file_size.ensures c.in_ok-check_output.ensures in omega (arith, all)
 
-pub put_task-requires : goal.put_task-requires
-put_task-requires c =
-    let rows = accepted-rows _ _ _ _ (sym (decided (goal.at.put_task-requires c).After-earlier-verdict) ∙ c.in-Ok.is) in
-    let range = counts-range _ _ _ rows.0 in
-    record { blocks_bound = (range.1, range.2, range.4); out_len = rows.1 }
+pub put_blocks-requires : goal.put_blocks-requires
+put_blocks-requires c =
+    let all = rows-accepted _ c.in_ok-check_counts.ensures c.file_size.ensures c.in_ok-check_output.ensures in (omega (arith, all), omega (arith, all))
 
-pub returns-in-Ok : goal.returns-in-Ok
+pub put_blocks-requires-2 : goal.put_blocks-requires-2
+put_blocks-requires-2 c =
+    let all = rows-accepted _ c.in_ok-check_counts.ensures c.file_size.ensures c.in_ok-check_output.ensures in (omega (arith, all), omega (arith, all))
+
+pub overflow_cast-blocks-3 : goal.overflow_cast-blocks-3
+overflow_cast-blocks-3 c =
+    let all = rows-accepted _ c.in_ok-check_counts.ensures c.file_size.ensures c.in_ok-check_output.ensures in omega (arith, all)
+
+pub overflow_cast-preempters-2 : goal.overflow_cast-preempters-2
+overflow_cast-preempters-2 c =
+    let all = rows-accepted _ c.in_ok-check_counts.ensures c.file_size.ensures c.in_ok-check_output.ensures in omega (arith, all)
+
+pub close_file-requires : goal.close_file-requires
+close_file-requires c =
+    let all = rows-accepted _ c.in_ok-check_counts.ensures c.file_size.ensures c.in_ok-check_output.ensures in omega (arith, all)
+
+pub returns : goal.returns
 unfolding generated
-returns-in-Ok c =
-    rw (← decided (goal.at.returns-in-Ok c).After-earlier-verdict, c.in-Ok.is) record { value = refl; out_after = c.put_task.ensures }
-
-pub returns-in-Err : goal.returns-in-Err
-unfolding generated
-returns-in-Err c = rw (← decided (goal.at.returns-in-Err c).After-earlier-verdict, c.in-Err.is) record { value = refl; out_after = refl }
+returns c =
+    let args = c.args in
+    let all = rows-accepted _ c.in_ok-check_counts.ensures c.file_size.ensures c.in_ok-check_output.ensures in
+    let put = task-put args.seed args.blocks args.preempters args.line_count args.limit args.reload c.put_blocks.new.self.state args.out.now
+    c.put_blocks.new.out c.put_blocks-2.new.out c.close_file.new.out c.put_blocks.ensures.out_after
+    c.put_blocks.ensures.state_after c.put_blocks-2.ensures.out_after c.close_file.ensures in
+    rw all.0 record { value = refl; out_after = put }

@@ -37,10 +37,8 @@ fn put_word(out: &mut [u8], at: usize, word: &[u8]) -> usize
     ensures { Put out.old at word.now out.new result }
 {
     let mut next = at;
-    let mut i = 0;
-    while i < word.len() {
-        next = put_byte(out, next, word[i]);
-        i += 1;
+    for byte in word {
+        next = put_byte(out, next, *byte);
     }
     next
 }
@@ -102,10 +100,8 @@ fn put_reads(out: &mut [u8], at: usize, file: &[u8], k: usize) -> usize
 {
     let count = taskfile::read_count(file, k);
     let mut next = at;
-    let mut j = 0;
-    while j < count {
+    for j in 0..count {
         next = put_spaced(out, next, taskfile::read(file, k, j));
-        j += 1;
     }
     next
 }
@@ -163,10 +159,8 @@ fn put_blocks(out: &mut [u8], at: usize, file: &[u8]) -> usize
 {
     let count = taskfile::block_count(file);
     let mut next = at;
-    let mut i = 0;
-    while i < count {
+    for i in 0..count {
         next = put_block(out, next, file, i);
-        i += 1;
     }
     next
 }
@@ -194,10 +188,8 @@ fn put_preempters(out: &mut [u8], at: usize, file: &[u8]) -> usize
 {
     let count = taskfile::preempter_count(file);
     let mut next = at;
-    let mut i = 0;
-    while i < count {
+    for i in 0..count {
         next = put_preempter(out, next, file, i);
-        i += 1;
     }
     next
 }

@@ -1,8 +1,6 @@
 -- `showing::put_blocks` meets its contract: the blocks that are left are the rest of the text.
 use native.Mathlib.Omega.{arith}
-use borrow.Author.Rules.{rules}
 use Prim.Native.Nat.{suc}
-use mathlib.Core.Path.{refl}
 use native.Mathlib.Numerals.{add-one}
 use lib.ListN.{drop, drop_of_length-le}
 use Rattle.model.specs.Lines.{block_at}
@@ -17,7 +15,7 @@ pub block_count-count-requires : goal.block_count-count-requires
 block_count-count-requires c = c.requires.0
 
 pub loop-i-init : goal.loop-i-init
-loop-i-init c = (search rules, refl, all_left _ _ _)
+loop-i-init c = all_left _ _ _
 
 -- the next block is the first of what is left
 more : (c : goal.In-loop-i)
@@ -26,16 +24,16 @@ more : (c : goal.In-loop-i)
     let all = (task_of args.file.now).blocks in
     Next args.out.now args.at (blocks_text all) loop.out loop.next (block_text (block_at (task_of args.file.now) loop.i)) (blocks_text (drop (suc loop.i) all))
 unfolding block_at
-more c = next _ _ (blocks-next _ c.loop-i.i (omega arith)) c.loop-i.invariant.2
+more c = next _ _ (blocks-next _ c.loop-i.i (omega arith)) c.loop-i.invariant
 
 pub put_block-next-requires : goal.put_block-next-requires
 put_block-next-requires c = record { accepted = (c.requires.0, omega arith); room = room (more (goal.at.put_block-next-requires c).In-loop-i) c.requires.1 }
 
 pub loop-i-preserved : goal.loop-i-preserved
-loop-i-preserved c = (search rules, search rules, rw add-one (put_next (more (goal.at.loop-i-preserved c).In-loop-i) c.put_block-next.ensures))
+loop-i-preserved c = rw add-one (put_next (more (goal.at.loop-i-preserved c).In-loop-i) c.put_block-next.ensures)
 
 pub returns : goal.returns
 unfolding blocks_text
 returns c =
     let loop = c.loop-i in
-    all-put (rw (drop_of_length-le (task_of c.args.file.now).blocks {i = loop.i} (omega arith)) at loop.invariant.2)
+    all-put (rw (drop_of_length-le (task_of c.args.file.now).blocks {i = loop.i} (omega arith)) at loop.invariant)

@@ -1,8 +1,6 @@
 -- `showing::put_preempters` meets its contract: the preempters that are left are the rest of the text.
 use native.Mathlib.Omega.{arith}
-use borrow.Author.Rules.{rules}
 use Prim.Native.Nat.{suc}
-use mathlib.Core.Path.{refl}
 use native.Mathlib.Numerals.{add-one}
 use lib.ListN.{get_or, drop, drop_of_length-le}
 use Rattle.model.specs.Task.{no_preempter}
@@ -17,7 +15,7 @@ pub preempter_count-count-requires : goal.preempter_count-count-requires
 preempter_count-count-requires c = c.requires.0
 
 pub loop-i-init : goal.loop-i-init
-loop-i-init c = (search rules, refl, all_left _ _ _)
+loop-i-init c = all_left _ _ _
 
 -- the next preempter is the first of what is left
 more : (c : goal.In-loop-i)
@@ -25,16 +23,16 @@ more : (c : goal.In-loop-i)
     let loop = c.loop-i in
     let all = (task_of args.file.now).preempters in
     Next args.out.now args.at (preempters_text all) loop.out loop.next (preempter_text (get_or all loop.i no_preempter)) (preempters_text (drop (suc loop.i) all))
-more c = next _ _ (preempters-next _ c.loop-i.i (omega arith)) c.loop-i.invariant.2
+more c = next _ _ (preempters-next _ c.loop-i.i (omega arith)) c.loop-i.invariant
 
 pub put_preempter-next-requires : goal.put_preempter-next-requires
 put_preempter-next-requires c = record { accepted = (c.requires.0, omega arith); room = room (more (goal.at.put_preempter-next-requires c).In-loop-i) c.requires.1 }
 
 pub loop-i-preserved : goal.loop-i-preserved
-loop-i-preserved c = (search rules, search rules, rw add-one (put_next (more (goal.at.loop-i-preserved c).In-loop-i) c.put_preempter-next.ensures))
+loop-i-preserved c = rw add-one (put_next (more (goal.at.loop-i-preserved c).In-loop-i) c.put_preempter-next.ensures)
 
 pub returns : goal.returns
 unfolding preempters_text
 returns c =
     let loop = c.loop-i in
-    all-put (rw (drop_of_length-le (task_of c.args.file.now).preempters {i = loop.i} (omega arith)) at loop.invariant.2)
+    all-put (rw (drop_of_length-le (task_of c.args.file.now).preempters {i = loop.i} (omega arith)) at loop.invariant)

@@ -1,8 +1,6 @@
 -- `showing::put_reads` meets its contract: the numbers that are left are the rest of the text.
 use native.Mathlib.Omega.{arith}
-use borrow.Author.Rules.{rules}
 use Prim.Native.Nat.{suc}
-use mathlib.Core.Path.{refl}
 use mathlib.Core.List.{◌∷◌}
 use native.Mathlib.Numerals.{add-one}
 use lib.ListN.{get_or, drop, drop_of_length-le}
@@ -15,7 +13,7 @@ use Rattle.showing.proofs.put_reads.Goals as goal
 use Rattle.showing.proofs.put_reads.Goals.{In-loop-j}
 
 pub loop-j-init : goal.loop-j-init
-loop-j-init c = (search rules, refl, all_left _ _ _)
+loop-j-init c = all_left _ _ _
 
 pub read-requires : goal.read-requires
 read-requires c = record { accepted = c.requires.accepted; j_in_bounds = omega arith }
@@ -26,7 +24,7 @@ more : (c : goal.In-loop-j)
     let loop = c.loop-j in
     let reads = entry_reads args.file.now args.k in
     Next args.out.now args.at (spaced reads) loop.out loop.next (space ∷ spelled (get_or reads loop.j 0)) (spaced (drop (suc loop.j) reads))
-more c = next _ _ (spaced-next _ c.loop-j.j (omega arith)) c.loop-j.invariant.2
+more c = next _ _ (spaced-next _ c.loop-j.j (omega arith)) c.loop-j.invariant
 
 pub put_spaced-next-requires : goal.put_spaced-next-requires
 put_spaced-next-requires c = rw c.read.ensures (room (more (goal.at.put_spaced-next-requires c).In-loop-j) c.requires.room)
@@ -34,11 +32,11 @@ put_spaced-next-requires c = rw c.read.ensures (room (more (goal.at.put_spaced-n
 pub loop-j-preserved : goal.loop-j-preserved
 loop-j-preserved c =
     let put = rw c.read.ensures at c.put_spaced-next.ensures in
-    (search rules, search rules, rw add-one (put_next (more (goal.at.loop-j-preserved c).In-loop-j) put))
+    rw add-one (put_next (more (goal.at.loop-j-preserved c).In-loop-j) put)
 
 pub returns : goal.returns
 unfolding spaced
 returns c =
     let args = c.args in
     let loop = c.loop-j in
-    all-put (rw (drop_of_length-le (entry_reads args.file.now args.k) {i = loop.j} (omega arith)) at loop.invariant.2)
+    all-put (rw (drop_of_length-le (entry_reads args.file.now args.k) {i = loop.j} (omega arith)) at loop.invariant)

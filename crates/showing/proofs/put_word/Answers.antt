@@ -1,33 +1,31 @@
 -- `showing::put_word` meets its contract: the bytes that are left are the rest of the text.
-use borrow.Author.Rules.{rules}
 use Prim.Native.Nat.{suc}
-use mathlib.Core.Path.{refl}
 use mathlib.Core.List.{[], ◌∷◌}
 use native.Mathlib.Numerals.{add-one}
 use lib.ListN.{get_or, drop, drop_of_length-le}
 use lib.Seq.{drop-cons}
 use Rattle.showing.proofs.Laws.{Next, all_left, next, room, put_next, all-put}
 use Rattle.showing.proofs.put_word.Goals as goal
-use Rattle.showing.proofs.put_word.Goals.{In-loop-i}
+use Rattle.showing.proofs.put_word.Goals.{In-loop-byte}
 
-pub loop-i-init : goal.loop-i-init
-loop-i-init c = (search rules, refl, all_left _ _ _)
+pub loop-byte-init : goal.loop-byte-init
+loop-byte-init c = all_left _ _ _
 
 -- the next byte is the first of what is left
-more : (c : goal.In-loop-i)
+more : (c : goal.In-loop-byte)
     → let args = c.args in
-    let loop = c.loop-i in
-    Next args.out.now args.at args.word.now loop.out loop.next (get_or args.word.now loop.i 0 ∷ []) (drop (suc loop.i) args.word.now)
-more c = next _ _ (drop-cons c.args.word.now c.loop-i.i 0 c.loop-i-test.true) c.loop-i.invariant.2
+    let loop = c.loop-byte in
+    Next args.out.now args.at args.word.now loop.out loop.next (get_or args.word.now loop.byte-index 0 ∷ []) (drop (suc loop.byte-index) args.word.now)
+more c = next _ _ (drop-cons c.args.word.now c.loop-byte.byte-index 0 c.loop-byte-test.true) c.loop-byte.invariant
 
 pub put_byte-next-requires : goal.put_byte-next-requires
-put_byte-next-requires c = room (more (goal.at.put_byte-next-requires c).In-loop-i) c.requires
+put_byte-next-requires c = room (more (goal.at.put_byte-next-requires c).In-loop-byte) c.requires
 
-pub loop-i-preserved : goal.loop-i-preserved
-loop-i-preserved c =
-    (search rules, search rules, rw add-one (put_next (more (goal.at.loop-i-preserved c).In-loop-i) c.put_byte-next.ensures))
+pub loop-byte-preserved : goal.loop-byte-preserved
+loop-byte-preserved c =
+    rw add-one (put_next (more (goal.at.loop-byte-preserved c).In-loop-byte) c.put_byte-next.ensures)
 
 pub returns : goal.returns
 returns c =
-    let loop = c.loop-i in
-    all-put (rw (drop_of_length-le c.args.word.now {i = loop.i} c.loop-i-test.false) at loop.invariant.2)
+    let loop = c.loop-byte in
+    all-put (rw (drop_of_length-le c.args.word.now {i = loop.byte-index} c.loop-byte-test.false) at loop.invariant)

@@ -3,7 +3,6 @@
 
 ghost use Rattle.std.specs.Prelude.{◌≡◌, length};
 
-use model::Verdict;
 use std::io;
 
 // The longest text that is read.
@@ -21,8 +20,8 @@ fn print_file(rt: &(impl Print + Eprint), text: &[u8]) -> io::Result<()> {
     let made = assembling::assemble(text, &mut file);
     let verdict = made.verdict;
     match verdict {
-        Verdict::Accepted => desk::print_page(rt, &file, made.length),
-        Verdict::Refused(refusal) => {
+        Ok(()) => desk::print_page(rt, &file, made.length),
+        Err(refusal) => {
             desk::report_refusal(rt, refusal, answers::refusal_place(refusal))
         }
     }

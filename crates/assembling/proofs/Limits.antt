@@ -1,5 +1,6 @@
 -- What a text says is within the limits of a file: every number has four bytes, and the counts fit.
 -- Assumes nothing.
+use Rattle.std.specs.Prelude.{None, Some}
 use Prim.Native.Nat.{ℕ, suc, ◌+◌, ◌^◌, ◌≤◌, ◌<◌}
 use Rattle.std.proofs.Common.{Option, None, Some}
 use mathlib.Core.Path.{◌≡◌, refl}
@@ -13,7 +14,6 @@ use lib.Dec.{eqb, leb, ltb}
 use lib.ListN.{length, get_or, drop, length-append, length-drop, get_or-append}
 use lib.Seq.{get_or-append-add}
 use Rattle.model.specs.Lists.{same_list}
-use Rattle.model.specs.declared.Place.TheVariants.{Nowhere, At}
 use Rattle.block.specs.Bytes.{Each}
 use Rattle.block.proofs.Each.{each_at, each_append}
 use Rattle.taskfile.specs.File.{counts_in_range, scratch_in_range, header_in_range, header_numbers, EntryWithin, Within}
@@ -195,24 +195,24 @@ right-more d (w ∷ ws) r h = go (ltb (length d.numbers) 8) refl both.1
 
 -- a text without a wrong line is whole and right
 
-lines-drafted : (d : Draft) (i : ℕ) (ls : List (List ℕ)) → Right d → wrong_line d i ls ≡ Nowhere → Drafted (drafted d ls)
+lines-drafted : (d : Draft) (i : ℕ) (ls : List (List ℕ)) → Right d → wrong_line d i ls ≡ None → Drafted (drafted d ls)
 unfolding wrong_line drafted
 lines-drafted d i [] r e = go (whole d) refl e
   where
-    go : (z : Bool) → whole d ≡ z → cond z Nowhere (At i) ≡ Nowhere → Drafted d
+    go : (z : Bool) → whole d ≡ z → cond z None (Some i) ≡ None → Drafted d
     go true w e =
         let both = (and-eq-true_iff (leb 8 (length d.numbers)) (ltb 0 (length d.blocks))).0 w in
         record { right = r; all = leb-true _ _ both.0; some = ltb-true _ _ both.1 }
     go false w e = let z : ◌≡◌ {A = ℕ} 0 1 = cc in absurd (omega arith)
 lines-drafted d i (l ∷ ls) r e = go (takes d (words_of l)) refl e (λ t. lines-drafted (with_words d (words_of l)) (suc i) ls (right-more d (words_of l) r t))
   where
-    go : (z : Bool) → takes d (words_of l) ≡ z → cond z (wrong_line (with_words d (words_of l)) (suc i) ls) (At i) ≡ Nowhere
-        → (takes d (words_of l) ≡ true → wrong_line (with_words d (words_of l)) (suc i) ls ≡ Nowhere → Drafted (drafted (with_words d (words_of l)) ls))
+    go : (z : Bool) → takes d (words_of l) ≡ z → cond z (wrong_line (with_words d (words_of l)) (suc i) ls) (Some i) ≡ None
+        → (takes d (words_of l) ≡ true → wrong_line (with_words d (words_of l)) (suc i) ls ≡ None → Drafted (drafted (with_words d (words_of l)) ls))
         → Drafted (drafted (with_words d (words_of l)) ls)
     go true t e f = f t e
     go false t e f = let z : ◌≡◌ {A = ℕ} 0 1 = cc in absurd (omega arith)
 
-pub text-drafted : (text : List ℕ) → wrong_in text ≡ Nowhere → Drafted (draft_in text)
+pub text-drafted : (text : List ℕ) → wrong_in text ≡ None → Drafted (draft_in text)
 unfolding wrong_in draft_in
 text-drafted text e = lines-drafted no_draft 0 _ right-none e
 

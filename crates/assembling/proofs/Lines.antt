@@ -1,5 +1,6 @@
 -- A text read line by line: what the lines so far have come to, and what is left.
 -- Assumes nothing.
+use Rattle.std.specs.Prelude.{None, Some}
 use Prim.Native.Nat.{ℕ, ◌+◌, ◌≤◌, ◌<◌}
 use Rattle.std.specs.Option.{is_some}
 use Rattle.std.proofs.Common.{Option, Some}
@@ -9,7 +10,6 @@ use mathlib.Core.List.{List, [], ◌∷◌}
 use native.Mathlib.Numerals.{add-one}
 use native.Mathlib.Omega.{arith}
 use lib.ListN.{length, drop, length-append, length-drop}
-use Rattle.model.specs.declared.Place.TheVariants.{Nowhere, At}
 use Rattle.block.specs.Blocks.{sealed_blocks}
 use Rattle.taskfile.specs.File.{whole_blocks}
 use Rattle.writer.specs.Writing.{Appended}
@@ -49,7 +49,7 @@ module _ {text file : List ℕ} {known : Known} {line : ℕ} {rest : List ℕ} (
   first : lines_of rest ≡ here ∷ lines_of (drop 1 left)
   first = first-line inside span
 
-  pub read-wrong : is_some r ≡ false → wrong_in text ≡ At line
+  pub read-wrong : is_some r ≡ false → wrong_in text ≡ Some line
   unfolding wrong_line
   read-wrong e = s.place ∙ rw (first, ← taken.right, e) refl
 
@@ -77,10 +77,10 @@ module _ {text file : List ℕ} {known : Known} {line : ℕ} {rest : List ℕ} (
   unfolding drafted lines_of
   read_all = s.left ∙ rw no_line refl
 
-  pub read_whole : whole s.draft ≡ true → wrong_in text ≡ Nowhere
+  pub read_whole : whole s.draft ≡ true → wrong_in text ≡ None
   unfolding wrong_line lines_of
   read_whole e = s.place ∙ rw (no_line, e) refl
 
-  pub read_short : whole s.draft ≡ false → wrong_in text ≡ At line
+  pub read_short : whole s.draft ≡ false → wrong_in text ≡ Some line
   unfolding wrong_line lines_of
   read_short e = s.place ∙ rw (no_line, e) refl

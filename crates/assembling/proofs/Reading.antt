@@ -14,37 +14,35 @@ use lib.Dec.{leb, ltb}
 use lib.ListN.{length, set, take, length-append, length-set}
 use lib.Seq.{take-suc-set}
 use Rattle.decimals.specs.Decimals.{all_digits, value, decimal_of}
-use Rattle.decimals.specs.declared.Decimal.{Decimal}
-use Rattle.decimals.specs.declared.Decimal.TheVariants.{Number, Nothing}
 use Rattle.assembling.specs.Drafts.{is_number, all_numbers}
 use Rattle.assembling.specs.Steps.{number_in, NumbersRead}
 
 -- a word that says a number of 64 bits says it here too if it is small enough
 
-said : (w : List ℕ) (n : ℕ) → decimal_of w ≡ Number n → ((ltb 0 (length w) && all_digits w) ≡ true) × (value w ≡ n)
+said : (w : List ℕ) (n : ℕ) → decimal_of w ≡ Some n → ((ltb 0 (length w) && all_digits w) ≡ true) × (value w ≡ n)
 unfolding decimal_of
 said w n e = go (ltb 0 (length w) && all_digits w) (ltb (value w) 18446744073709551616) e
   where
-    go : (x y : Bool) → cond (x && y) (Number (value w)) Nothing ≡ Number n → (x ≡ true) × (value w ≡ n)
+    go : (x y : Bool) → cond (x && y) (Some (value w)) None ≡ Some n → (x ≡ true) × (value w ≡ n)
     go true true e = (refl, cc)
     go true false e = let z : ◌≡◌ {A = ℕ} 0 1 = cc in absurd (omega arith)
     go false y e = let z : ◌≡◌ {A = ℕ} 0 1 = cc in absurd (omega arith)
 
-pub number-right : (w : List ℕ) (n : ℕ) → Number n ≡ decimal_of w → n ≤ 4294967295 → Some n ≡ number_in w
+pub number-right : (w : List ℕ) (n : ℕ) → Some n ≡ decimal_of w → n ≤ 4294967295 → Some n ≡ number_in w
 unfolding number_in is_number
 number-right w n e h =
     let s = said w n (sym e) in
     let both = (and-eq-true_iff (ltb 0 (length w)) (all_digits w)).0 s.0 in
     rw (both.0, both.1, s.1, le-leb n 4294967295 h) refl
 
-pub number-large : (w : List ℕ) (n : ℕ) → Number n ≡ decimal_of w → 4294967295 < n → None ≡ number_in w
+pub number-large : (w : List ℕ) (n : ℕ) → Some n ≡ decimal_of w → 4294967295 < n → None ≡ number_in w
 unfolding number_in is_number
 number-large w n e h =
     let s = said w n (sym e) in
     let both = (and-eq-true_iff (ltb 0 (length w)) (all_digits w)).0 s.0 in
     rw (both.0, both.1, s.1, lt-leb n 4294967295 h) refl
 
-pub number-none : (w : List ℕ) → decimal_of w ≡ Nothing → number_in w ≡ None
+pub number-none : (w : List ℕ) → decimal_of w ≡ None → number_in w ≡ None
 unfolding decimal_of number_in is_number
 number-none w e = by_cases (dec_le (value w) 4294967295) small (λ h. large (ltb 0 (length w)) (all_digits w) (lt-leb (value w) 4294967295 (omega arith)))
   where
@@ -52,7 +50,7 @@ number-none w e = by_cases (dec_le (value w) 4294967295) small (λ h. large (ltb
     large a true h = rw (h, and-false)
     large a false h = rw and-false
 
-    go : (a b : Bool) → cond ((a && b) && true) (Number (value w)) Nothing ≡ Nothing → cond (a && (b && true)) (Some (value w)) None ≡ None
+    go : (a b : Bool) → cond ((a && b) && true) (Some (value w)) None ≡ None → cond (a && (b && true)) (Some (value w)) None ≡ None
     go true true e = let z : ◌≡◌ {A = ℕ} 0 1 = cc in absurd (omega arith)
     go true false e = refl
     go false b e = refl
@@ -61,16 +59,16 @@ number-none w e = by_cases (dec_le (value w) 4294967295) small (λ h. large (ltb
     small h = rw (le-leb (value w) 4294967295 h) (go (ltb 0 (length w)) (all_digits w) (rw (lt-ltb (value w) 18446744073709551616 (omega arith)) at e))
 
 -- the number, if it is small enough
-abbrev pub small_only : Decimal → Option ℕ
-small_only (Number n) = cond (leb n 4294967295) (Some n) None
-small_only Nothing = None
+abbrev pub small_only : Option ℕ → Option ℕ
+small_only (Some n) = cond (leb n 4294967295) (Some n) None
+small_only None = None
 
 pub number_is : (w : List ℕ) → number_in w ≡ small_only (decimal_of w)
 number_is w = go (decimal_of w) refl
   where
-    go : (d : Decimal) → d ≡ decimal_of w → number_in w ≡ small_only d
-    go (Number n) e = by_cases (dec_le n 4294967295) (λ h. rw (le-leb n 4294967295 h) (sym (number-right w n e h))) (λ h. rw (lt-leb n 4294967295 (omega arith)) (sym (number-large w n e (omega arith))))
-    go Nothing e = number-none w (sym e)
+    go : (d : Option ℕ) → d ≡ decimal_of w → number_in w ≡ small_only d
+    go (Some n) e = by_cases (dec_le n 4294967295) (λ h. rw (le-leb n 4294967295 h) (sym (number-right w n e h))) (λ h. rw (lt-leb n 4294967295 (omega arith)) (sym (number-large w n e (omega arith))))
+    go None e = number-none w (sym e)
 
 -- the words read so far, all numbers, whose values stand in an array, and those that are left
 pub record Seen (words left : List (List ℕ)) (numbers : List ℕ) (count : ℕ) : Type 0 where

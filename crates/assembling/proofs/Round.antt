@@ -1,5 +1,6 @@
 -- The text of a task within the limits has no wrong line, and says that task: line after line, the draft grows by what the line was written of.
 -- Assumes nothing.
+use Rattle.std.specs.Prelude.{None, Some}
 use Prim.Native.Nat.{ℕ, suc, ◌+◌, ◌≤◌, ◌<◌}
 use Rattle.std.proofs.Common.{Some}
 use mathlib.Core.Path.{◌≡◌, refl, sym, ap, subst, ◌∙◌}
@@ -13,7 +14,6 @@ use lib.ListN.{length, length-append}
 use Rattle.model.specs.Task.{Block, Preempter, Task, block_count, line_count}
 use Rattle.model.specs.Lists.{same_list}
 use Rattle.model.specs.declared.Header.{Header}
-use Rattle.model.specs.declared.Place.TheVariants.{Nowhere, At}
 use Rattle.block.specs.Bytes.{Each}
 use Rattle.taskfile.specs.File.{counts_in_range, scratch_in_range, header_in_range, header_numbers, EntryWithin, Within}
 use Rattle.taskfile.proofs.Accepted.{in-range}
@@ -71,8 +71,8 @@ module _ (d : Draft) (i : ℕ) (w ns rest : List ℕ) (is : IsWord w) (small : E
       let next = wrong_line (with_words d (w ∷ map spelled ns)) (suc i) (lines_of rest) in
       record {
         place =
-            ap (wrong_line d i) lines ∙ ap (λ (ws : List (List ℕ)). cond (takes d ws) (wrong_line (with_words d ws) (suc i) (lines_of rest)) (At i)) read ∙
-            ap (λ (b : Bool). cond b next (At i)) t;
+            ap (wrong_line d i) lines ∙ ap (λ (ws : List (List ℕ)). cond (takes d ws) (wrong_line (with_words d ws) (suc i) (lines_of rest)) (Some i)) read ∙
+            ap (λ (b : Bool). cond b next (Some i)) t;
         known = ap (drafted d) lines ∙ ap (λ (ws : List (List ℕ)). drafted (with_words d ws) (lines_of rest)) read;
       }
 
@@ -221,6 +221,6 @@ module _ (t : Task) (w : Within t) where
   unfolding draft_in drafted lines_of
   text-known = goes-text.1.known
 
-  pub text-right : wrong_in (text_of t) ≡ Nowhere
+  pub text-right : wrong_in (text_of t) ≡ None
   unfolding wrong_in wrong_line lines_of
   text-right = goes-text.1.place ∙ rw (lt-ltb 0 (length t.blocks) (omega (arith, (in-range t w.in-range).0))) refl

@@ -3,8 +3,6 @@ use Rattle.std.specs.Prelude.{ℕ, suc, ◌+◌, Bool, true, false, cond, ◌&&�
 use Rattle.model.specs.Task.{Block, Preempter, Task}
 use Rattle.model.specs.Lists.{same_list}
 use Rattle.model.specs.declared.Header.{Header}
-use Rattle.model.specs.declared.Place.{Place}
-use Rattle.model.specs.declared.Place.TheVariants.{Nowhere, At}
 use Rattle.decimals.specs.Decimals.{all_digits, value}
 use Rattle.showing.specs.Text.{task_word, lines_word, limit_word, sampler_word, reload_word, switch_word, scratch_word, block_word, armed_word, preempter_word}
 use Rattle.assembling.specs.Words.{words_of, lines_of}
@@ -98,9 +96,9 @@ abbrev pub whole : Draft → Bool
 whole d = leb 8 (length d.numbers) && ltb 0 (length d.blocks)
 
 -- the lowest line, counted from i, at which a text cannot go on; where it ends too early, the number of its lines
-unfoldable pub wrong_line : Draft → ℕ → List (List ℕ) → Place
-wrong_line d i [] = cond (whole d) Nowhere (At i)
-wrong_line d i (l ∷ ls) = cond (takes d (words_of l)) (wrong_line (with_words d (words_of l)) (suc i) ls) (At i)
+unfoldable pub wrong_line : Draft → ℕ → List (List ℕ) → Option ℕ
+wrong_line d i [] = cond (whole d) None (Some i)
+wrong_line d i (l ∷ ls) = cond (takes d (words_of l)) (wrong_line (with_words d (words_of l)) (suc i) ls) (Some i)
 
 -- what is known behind some lines
 unfoldable pub drafted : Draft → List (List ℕ) → Draft
@@ -123,7 +121,7 @@ unfoldable pub task_from : Draft → Task
 task_from d = record { header = header_from d.numbers; blocks = d.blocks; preempters = d.preempters }
 
 -- the wrong line of a text, if any, and else the task that it says
-unfoldable pub wrong_in : List ℕ → Place
+unfoldable pub wrong_in : List ℕ → Option ℕ
 wrong_in text = wrong_line no_draft 0 (lines_of text)
 
 unfoldable pub draft_in : List ℕ → Draft

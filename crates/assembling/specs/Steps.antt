@@ -1,8 +1,10 @@
 -- What the steps of the reader leave to each other: parts of a line, numbers in an array, and what is known behind a line. Assumes nothing.
-use Rattle.std.specs.Prelude.{ℕ, ◌≤◌, ◌<◌, ◌≡◌, Bool, true, false, cond, ◌&&◌, List, [], ◌∷◌, ◌++◌, map, leb, ltb, length, get_or, take, Option, None, Some, is_some}
+use Rattle.std.specs.Prelude.{ℕ, ◌≤◌, ◌<◌, ◌≡◌, Bool, true, false, cond, ◌&&◌, List, [], ◌∷◌, ◌++◌, map, leb, ltb, length, get_or, take, Option, None, Some, is_some, Result, Ok, Err}
 use Rattle.taskfile.specs.File.{basic_bytes, preempter_bytes}
 use Rattle.writer.specs.Writing.{Appended}
 use Rattle.decimals.specs.Decimals.{value}
+use Rattle.model.specs.Answers.{accept, Verdict}
+use Rattle.model.specs.declared.Refusal.{Refusal}
 use Rattle.assembling.specs.Words.{words_of}
 use Rattle.assembling.specs.Drafts.{Draft, is_number, all_numbers, takes, with_words, block_from, preempter_from}
 use Rattle.assembling.specs.declared.Kind.{Kind}
@@ -61,3 +63,8 @@ Stored d file = Appended 0 (names_of d) [] file
 pub record TakesLine (d : Draft) (words : List (List ℕ)) (r : Option Known) (file : List ℕ) : Type 0 where
   pub right : is_some r ≡ takes d words
   pub known : (k : Known) → r ≡ Some k → Knows (with_words d words) k × Stored (with_words d words) file
+
+-- a reader's refusal, if it refuses
+abbrev pub refusal_of : Result Known Refusal → Verdict
+refusal_of (Ok k) = accept
+refusal_of (Err x) = Err x

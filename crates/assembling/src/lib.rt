@@ -1,19 +1,20 @@
 // The text of a task, that people write and read: a task file made of one, and one made of a task file.
 #![tactic(auto)]
 
-ghost use Rattle.std.specs.Prelude.{◌≡◌, true, List, [], ◌++◌, ℕ, ◌≤◌, ◌<◌, length, get_or, take, drop, is_some, IfSome, MatchOption};
+ghost use Rattle.std.specs.Prelude.{◌≡◌, true, List, [], ◌++◌, ℕ, ◌≤◌, ◌<◌, length, get_or, take, drop, is_some, IfSome, IfOk, MatchOption};
 ghost use Rattle.assembling.specs.Words.{is_blank, is_word_byte, is_line_byte, words_of};
 ghost use Rattle.assembling.specs.Drafts.{header_word, header_right, kind_of, room_for, takes_header, takes_entry};
 ghost use Rattle.assembling.specs.Drafts.{Draft, with_numbers, with_entry, with_kind, whole, wrong_in, draft_in, header_from, task_from};
-ghost use Rattle.assembling.specs.Steps.{Splits, FirstWord, number_in, NumbersRead, Knows, entry_named, Stored, TakesLine};
+ghost use Rattle.assembling.specs.Steps.{Splits, FirstWord, number_in, NumbersRead, Knows, entry_named, Stored, TakesLine, refusal_of};
+ghost use Rattle.model.specs.Answers.{accept, refused_at};
+ghost use Rattle.model.specs.declared.Refusal.TheVariants.{WrongText};
 ghost use Rattle.assembling.specs.Limits.{Drafted};
 ghost use Rattle.taskfile.specs.File.{file_of};
 ghost use Rattle.assembling.specs.Calls.{assemble_answer, assemble_output};
 ghost use Rattle.block.specs.Blocks.{numbered};
 ghost use Rattle.writer.specs.Writing.{stored_reads};
 
-use decimals::Decimal;
-use model::{Header, Place, Refusal, Scratch, Verdict};
+use model::{Header, Refusal, Scratch};
 
 // What a line behind the header's says.
 #[derive(Clone, Copy)]
@@ -81,9 +82,7 @@ fn next_word(line: &[u8]) -> Option<(&[u8], &[u8])>
 fn number_of(word: &[u8]) -> Option<u32>
     ensures { result ≡ number_in word.now }
 {
-    let Decimal::Number(n) = decimals::decimal_of(word) else {
-        return None;
-    };
+    let n = decimals::decimal_of(word)?;
     if 4294967295 < n {
         return None;
     }
@@ -273,13 +272,6 @@ fn take_line(file: &mut [u8], known: Known, line: &[u8]) -> Option<Known>
     }
 }
 
-// What a text says: its lowest wrong line, if any, and what is known behind its last.
-#[derive(Clone, Copy)]
-struct Outcome {
-    place: Place,
-    known: Known,
-}
-
 // Whether a text may end here.
 fn is_whole(known: Known) -> bool
     ensures { (d : Draft) → Knows d known → result ≡ whole d }
@@ -287,12 +279,12 @@ fn is_whole(known: Known) -> bool
     (8 <= known.given) & (0 < known.blocks)
 }
 
-// Reads a text line by line; each block is stored in the file.
-fn read_lines(file: &mut [u8], text: &[u8]) -> Outcome
+// Reads a text line by line, and answers what is known behind its last line, or 17 at its lowest wrong line; each block is stored in the file.
+fn read_lines(file: &mut [u8], text: &[u8]) -> Result<Known, Refusal>
     requires { length file.old ≡ 49664 }
-    ensures place_value { result.place ≡ wrong_in text.now }
-    ensures knows { result.place ≡ Place.Nowhere → Knows (draft_in text.now) result.known × Stored (draft_in text.now) file.new }
-    ensures blocks_bound { (result.known.blocks ≤ 64) × (result.known.preempters ≤ 32) }
+    ensures refusal { refusal_of result ≡ refused_at (wrong_in text.now) WrongText accept }
+    ensures knows { IfOk result (λ k. Knows (draft_in text.now) k × Stored (draft_in text.now) file.new) }
+    ensures blocks_bound { IfOk result (λ k. (k.blocks ≤ 64) × (k.preempters ≤ 32)) }
 {
     let mut known = Known {
         given: 0,
@@ -304,13 +296,7 @@ fn read_lines(file: &mut [u8], text: &[u8]) -> Outcome
     let mut rest = text;
     while !rest.is_empty() {
         let (first, left) = split_run(rest, is_line_byte);
-        let Some(next) = take_line(file, known, first) else {
-            return Outcome {
-                place: Place::At(line),
-                known,
-            };
-        };
-        known = next;
+        known = take_line(file, known, first).ok_or(Refusal::WrongText(line))?;
         line += 1;
         rest = match left.split_first() {
             Some((_, behind)) => behind,
@@ -318,15 +304,9 @@ fn read_lines(file: &mut [u8], text: &[u8]) -> Outcome
         };
     }
     if is_whole(known) {
-        Outcome {
-            place: Place::Nowhere,
-            known,
-        }
+        Ok(known)
     } else {
-        Outcome {
-            place: Place::At(line),
-            known,
-        }
+        Err(Refusal::WrongText(line))
     }
 }
 
@@ -364,40 +344,16 @@ fn close(file: &mut [u8], known: Known) -> usize
     size
 }
 
-// What a call answers: the length of what it leaves beside the verdict, 0 where it refuses.
-#[derive(Clone, Copy)]
-pub struct Made {
-    pub verdict: Verdict,
-    pub length: usize,
-}
-
-// The task file of a text, at the beginning of an output of 49,664 bytes, and its length. Bytes past it stay as they were, and on a refusal all do:
-// the file is made aside, and copied once the whole text is right.
-pub fn assemble(text: &[u8], out: &mut [u8]) -> Made
+// The length of the task file of a text, which is at the beginning of an output of 49,664 bytes, or the refusal: 9 for the output, and then 17 at the
+// lowest wrong line. Bytes past the file stay as they were, and on a refusal all do: the file is made aside, and copied once the whole text is right.
+pub fn assemble(text: &[u8], out: &mut [u8]) -> Result<usize, Refusal>
     ensures value { result ≡ assemble_answer text.now out.old }
     ensures out_after { out.new ≡ assemble_output text.now out.old }
 {
-    let checked = answers::check_output(49664, out.len());
-    let Verdict::Accepted = checked else {
-        return refused(checked);
-    };
+    answers::check_output(49664, out.len())?;
     let mut file = [0u8; 49664];
-    let outcome = read_lines(&mut file, text);
-    let place = outcome.place;
-    match place {
-        Place::At(line) => refused(Verdict::Refused(Refusal::WrongText(line))),
-        Place::Nowhere => Made {
-            verdict: Verdict::Accepted,
-            length: make(&mut file, outcome.known, out),
-        },
-    }
-}
-
-// What is answered with a refusal.
-fn refused(verdict: Verdict) -> Made
-    ensures { result ≡ record { verdict = verdict; length = 0 } }
-{
-    Made { verdict, length: 0 }
+    let known = read_lines(&mut file, text)?;
+    Ok(make(&mut file, known, out))
 }
 
 // Closes the file of a whole text and copies it to the output; answers its length.

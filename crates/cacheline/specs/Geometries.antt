@@ -1,10 +1,8 @@
 -- What the geometry of a cache holds of a task. Assumes nothing.
-use Rattle.std.specs.Prelude.{ℕ, ◌+◌, ◌*◌, ◌/◌, ◌%◌, ◌^◌, ◌≤◌, ◌<◌, ◌≡◌, not, ◌&&◌, eqb}
+use Rattle.std.specs.Prelude.{ℕ, ◌+◌, ◌*◌, ◌/◌, ◌%◌, ◌^◌, ◌≤◌, ◌<◌, ◌≡◌, not, ◌&&◌, eqb, None, Option, Some}
 use Rattle.std.specs.Int.Bits.{bit_and}
 use Rattle.model.specs.Task.{Task, line_count}
 use Rattle.model.specs.Lines.{bypasses, on_line}
-use Rattle.model.specs.declared.Mapping.{Mapping}
-use Rattle.model.specs.declared.Mapping.TheVariants.{Uncached, Cached}
 use Rattle.cacheline.specs.declared.Divider.{Divider}
 use Rattle.cacheline.specs.declared.Geometry.{Geometry}
 use Rattle.cacheline.specs.declared.Power.{Power}
@@ -44,9 +42,9 @@ pub record GeometryOf (t : Task) (c : Geometry) : Type 0 where
   pub ends : c.first + c.bypassing ≤ 2 ^ 32
 
 -- a line, if there is one, is below 512
-abbrev pub WithinCache : Mapping → Type 0
-WithinCache Uncached = Unit
-WithinCache (Cached c) = c < 512
+abbrev pub WithinCache : Option ℕ → Type 0
+WithinCache None = Unit
+WithinCache (Some c) = c < 512
 
 -- memory block m is cached unless it bypasses the cache, and then lies on the slot's line alone
 pub record SlotOf (t : Task) (m : ℕ) (s : Slot) : Type 0 where

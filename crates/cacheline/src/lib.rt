@@ -8,8 +8,6 @@ ghost use Rattle.model.specs.Lines as Lines;
 ghost use Rattle.taskfile.specs.File.{IsAccepted, task_of};
 ghost use Rattle.cacheline.specs.Geometries.{Divides, Masks, PowerFor, Sound, GeometryOf, WithinCache, SlotOf};
 
-use model::Mapping;
-
 // Three numbers that divide by a count: the quotient of any 32-bit number is (number * factor + addend) >> shift.
 #[derive(Clone, Copy)]
 pub struct Divider {
@@ -120,14 +118,14 @@ fn power_for(lines: u64) -> Power
 
 impl Geometry {
     // The line of a memory block, or none.
-    pub fn line_of(self, number: u32) -> Mapping
+    pub fn line_of(self, number: u32) -> Option<usize>
         requires { Sound self }
         ensures { ((t : Task) → GeometryOf t self → result ≡ line_of t number) × WithinCache result }
     {
         if self.bypasses(number) {
-            Mapping::Uncached
+            None
         } else {
-            Mapping::Cached(self.remainder(number))
+            Some(self.remainder(number))
         }
     }
 

@@ -4,9 +4,7 @@
 
 ghost use Rattle.std.specs.Prelude.{◌≤◌, length};
 
-use decimals::Decimal;
 use demand::{Answer, Deadlines, TaskSet};
-use model::Verdict;
 use std::io;
 
 // A number above every range, which stands for all that are too large.
@@ -48,7 +46,7 @@ fn read_line(line: &[u8], numbers: &mut [u32; 4]) -> bool {
             return false;
         }
         let end = find(line, at, b' ');
-        let Decimal::Number(number) = decimals::capped_decimal(&line[at..end], TOO_LARGE) else {
+        let Some(number) = decimals::capped_decimal(&line[at..end], TOO_LARGE) else {
             return false;
         };
         numbers[i] = four_bytes(number);
@@ -91,8 +89,8 @@ fn print_answer(rt: &impl Print, answer: Answer) -> io::Result<()> {
     let verdict = answer.verdict;
     let deadlines = answer.deadlines;
     match verdict {
-        Verdict::Accepted => print_deadlines(rt, deadlines),
-        Verdict::Refused(refusal) => desk::print_refusal(rt, refusal),
+        Ok(()) => print_deadlines(rt, deadlines),
+        Err(refusal) => desk::print_refusal(rt, refusal),
     }
 }
 
@@ -105,7 +103,7 @@ fn print_usage(rt: &impl Eprint) -> io::Result<()> {
 
 // A text that fills the buffer may go on behind it, and is not looked at.
 fn main(rt: HostRuntime) -> io::Result<()> {
-    let Decimal::Number(horizon) = desk::capped_argument(&rt, 1, TOO_LARGE) else {
+    let Some(horizon) = desk::capped_argument(&rt, 1, TOO_LARGE) else {
         return print_usage(&rt);
     };
     if desk::argument_count(&rt) != 1 {

@@ -1,7 +1,5 @@
 -- Numbers in decimal digits. Assumes nothing.
-use Rattle.std.specs.Prelude.{ℕ, zero, suc, ◌+◌, ◌-◌, ◌*◌, ◌/◌, ◌%◌, ◌^◌, ◌≤◌, min, Bool, true, cond, ◌&&◌, List, [], ◌∷◌, ◌++◌, leb, ltb, length}
-use Rattle.decimals.specs.declared.Decimal.{Decimal}
-use Rattle.decimals.specs.declared.Decimal.TheVariants.{Number, Nothing}
+use Rattle.std.specs.Prelude.{ℕ, zero, suc, ◌+◌, ◌-◌, ◌*◌, ◌/◌, ◌%◌, ◌^◌, ◌≤◌, min, Bool, true, cond, ◌&&◌, List, [], ◌∷◌, ◌++◌, leb, ltb, length, None, Option, Some}
 
 -- a byte from `0` to `9`
 abbrev pub is_digit : ℕ → Bool
@@ -17,25 +15,25 @@ value [] = 0
 value (b ∷ bs) = (b - 48) * 10 ^ length bs + value bs
 
 -- a number that fits 64 bits, or nothing
-abbrev pub number_if : Bool → ℕ → Decimal
-number_if right n = cond (right && ltb n (2 ^ 64)) (Number n) Nothing
+abbrev pub number_if : Bool → ℕ → Option ℕ
+number_if right n = cond (right && ltb n (2 ^ 64)) (Some n) None
 
 -- one digit or more and no other byte, and a number below 2^64
-unfoldable pub decimal_of : List ℕ → Decimal
+unfoldable pub decimal_of : List ℕ → Option ℕ
 decimal_of text = number_if (ltb 0 (length text) && all_digits text) (value text)
 
 -- a number with one digit more at its end
-unfoldable pub with_digit : ℕ → ℕ → Decimal
+unfoldable pub with_digit : ℕ → ℕ → Option ℕ
 with_digit n b = number_if (is_digit b) (n * 10 + (b - 48))
 
 -- the same without a width: a number above the bound counts as the bound
-unfoldable pub capped_decimal : ℕ → List ℕ → Decimal
-capped_decimal most text = cond (ltb 0 (length text) && all_digits text) (Number (min (value text) most)) Nothing
+unfoldable pub capped_decimal : ℕ → List ℕ → Option ℕ
+capped_decimal most text = cond (ltb 0 (length text) && all_digits text) (Some (min (value text) most)) None
 
 -- a number, if there is one, is at most so much
-abbrev pub AtMost : ℕ → Decimal → Type 0
-AtMost most (Number n) = n ≤ most
-AtMost most Nothing = Unit
+abbrev pub AtMost : ℕ → Option ℕ → Type 0
+AtMost most (Some n) = n ≤ most
+AtMost most None = Unit
 
 -- the digits of a number, with no zero in front; of a longer one the last k
 unfoldable pub digits_of : ℕ → ℕ → List ℕ

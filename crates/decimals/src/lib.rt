@@ -12,58 +12,58 @@ pub enum Decimal {
 }
 
 // A number with one digit more at its end.
-fn with_digit(n: u64, byte: u8) -> Decimal
+fn with_digit(n: u64, byte: u8) -> Option<u64>
     ensures { result ≡ with_digit n byte }
 {
     if byte < b'0' {
-        return Decimal::Nothing;
+        return None;
     }
     if b'9' < byte {
-        return Decimal::Nothing;
+        return None;
     }
     let digit = (byte - b'0') as u64;
     if (0xffff_ffff_ffff_ffff - digit) / 10 < n {
-        return Decimal::Nothing;
+        return None;
     }
-    Decimal::Number(n * 10 + digit)
+    Some(n * 10 + digit)
 }
 
 // The number that bytes say: digits alone, and a number below 2^64.
-pub fn decimal_of(text: &[u8]) -> Decimal
+pub fn decimal_of(text: &[u8]) -> Option<u64>
     ensures { result ≡ decimal_of text.now }
 {
     if text.len() == 0 {
-        return Decimal::Nothing;
+        return None;
     }
     let mut n = 0;
     let mut i = 0;
     while i < text.len() {
-        let Decimal::Number(more) = with_digit(n, text[i]) else {
-            return Decimal::Nothing;
+        let Some(more) = with_digit(n, text[i]) else {
+            return None;
         };
         n = more;
         i += 1;
     }
-    Decimal::Number(n)
+    Some(n)
 }
 
 // The number that bytes say, or the bound where it is more: digits alone, however many.
-pub fn capped_decimal(text: &[u8], most: u32) -> Decimal
+pub fn capped_decimal(text: &[u8], most: u32) -> Option<u64>
     ensures { result ≡ capped_decimal most text.now }
 {
     if text.len() < 1 {
-        return Decimal::Nothing;
+        return None;
     }
     let mut n = 0;
     let mut i = 0;
     while i < text.len() {
-        let Decimal::Number(more) = with_digit(n, text[i]) else {
-            return Decimal::Nothing;
+        let Some(more) = with_digit(n, text[i]) else {
+            return None;
         };
         n = lesser(more, most as u64);
         i += 1;
     }
-    Decimal::Number(n)
+    Some(n)
 }
 
 fn lesser(a: u64, b: u64) -> u64

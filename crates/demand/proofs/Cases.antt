@@ -1,5 +1,6 @@
 -- Every case of `cases` holds: a test that antt computes over the whole list, and one law that takes a passed test to the claim. That a miss stays with
 -- every later horizon is a law of the search. Assumes nothing.
+use Rattle.std.specs.Prelude.{Err, Ok}
 use Prim.Native.Nat.{ℕ}
 use mathlib.Core.Path.{◌≡◌, refl, sym, ap, ◌∙◌}
 use mathlib.Core.Bool.{Bool, true, false, ◌&&◌, false≢true, and-eq-true_iff}
@@ -8,10 +9,8 @@ use lib.Dec.{eqb, leb}
 use lib.ListN.{length}
 use borrow.Author.Tests.{eqb-true, le-leb}
 use Rattle.model.specs.Lists.{lowest_from}
-use Rattle.model.specs.Answers.{number, place}
+use Rattle.model.specs.Answers.{Verdict, number, place}
 use Rattle.model.specs.Cases.{RefusedBy}
-use Rattle.model.specs.declared.Verdict.{Verdict}
-use Rattle.model.specs.declared.Verdict.TheVariants.{Accepted, Refused}
 use Rattle.demand.specs.Demand.{most_ticks, jobs, demand, demands, blocks, blocking, total, meets_at, least_deadline, deadlines_of}
 use Rattle.demand.specs.Calls.{in_range, right_task, right_tasks, right_set, set_verdict, answer_of}
 use Rattle.demand.specs.Cases.{Case, met_up_to, missed_at, total_is, refused, CaseHolds, cases}
@@ -32,8 +31,8 @@ is_missed t Met = false
 is_missed t (Missed s) = eqb s t
 
 refused_by : ℕ → ℕ → Verdict → Bool
-refused_by n i Accepted = false
-refused_by n i (Refused r) = eqb (number r) n && eqb (place r) i
+refused_by n i (Ok u) = false
+refused_by n i (Err r) = eqb (number r) n && eqb (place r) i
 
 test : Case → Bool
 test (met_up_to τs horizon) = right_set (length τs) τs && leb horizon most_ticks && is_met (deadlines_of τs horizon)
@@ -59,8 +58,8 @@ miss-is t (Missed s) h = ap Missed (eqb-true s t h)
 
 refused-is : (n i : ℕ) (v : Verdict) → refused_by n i v ≡ true → RefusedBy n i v
 unfolding refused_by
-refused-is n i Accepted h = absurd (false≢true h)
-refused-is n i (Refused r) h =
+refused-is n i (Ok u) h = absurd (false≢true h)
+refused-is n i (Err r) h =
     let both = (and-eq-true_iff (eqb (number r) n) (eqb (place r) i)).0 h in
     (r, refl, eqb-true _ _ both.0, eqb-true _ _ both.1)
 

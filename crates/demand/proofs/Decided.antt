@@ -1,4 +1,5 @@
 -- What the answer says of the totals, and what totals say of the answer. Assumes nothing.
+use Rattle.std.specs.Prelude.{None, Option, Some}
 use Prim.Native.Nat.{ℕ, suc, ◌-◌, ◌≤◌, ◌<◌}
 use mathlib.Core.Path.{◌≡◌, refl, ap, ◌∙◌}
 use mathlib.Core.Bool.{true, false}
@@ -6,8 +7,6 @@ use mathlib.Core.List.{List}
 use native.Mathlib.Omega.{arith}
 use borrow.Author.Tests.{leb-true, leb-false, le-leb, lt-leb}
 use Rattle.model.specs.Lists.{lowest_from}
-use Rattle.model.specs.declared.Place.{Place}
-use Rattle.model.specs.declared.Place.TheVariants.{Nowhere, At}
 use Rattle.model.proofs.Lowest.{lowest-nowhere, nowhere-lowest, lowest-at, lowest-found, lowest-within}
 use Rattle.demand.specs.Demand.{total, meets_at, least_deadline, deadlines_at, deadlines_of}
 use Rattle.demand.specs.Statements.{MeetsAll, MetExactly, MissedFirst}
@@ -33,20 +32,20 @@ met-exactly τs horizon = (
   λ h. ap deadlines_at (nowhere-lowest (meets_at τs) (least_deadline τs) (suc horizon - least_deadline τs) (λ k f u. meets τs k (h k f (omega arith)))),
 )
   where
-    go : (p : Place) → lowest_from (meets_at τs) (least_deadline τs) (suc horizon - least_deadline τs) ≡ p → deadlines_at p ≡ Met → MeetsAll τs horizon
-    go Nowhere e d t f u = meets-is τs t (lowest-nowhere (meets_at τs) (least_deadline τs) (suc horizon - least_deadline τs) e t f (omega arith))
-    go (At k) e d t f u = let z : ◌≡◌ {A = ℕ} 0 1 = cc in absurd (omega arith)
+    go : (p : Option ℕ) → lowest_from (meets_at τs) (least_deadline τs) (suc horizon - least_deadline τs) ≡ p → deadlines_at p ≡ Met → MeetsAll τs horizon
+    go None e d t f u = meets-is τs t (lowest-nowhere (meets_at τs) (least_deadline τs) (suc horizon - least_deadline τs) e t f (omega arith))
+    go (Some k) e d t f u = let z : ◌≡◌ {A = ℕ} 0 1 = cc in absurd (omega arith)
 
 pub missed_first : MissedFirst
 unfolding deadlines_of
 missed_first τs horizon t e = go (lowest_from (meets_at τs) (least_deadline τs) (suc horizon - least_deadline τs)) refl e
   where
-    go : (p : Place) → lowest_from (meets_at τs) (least_deadline τs) (suc horizon - least_deadline τs) ≡ p → deadlines_at p ≡ Missed t
+    go : (p : Option ℕ) → lowest_from (meets_at τs) (least_deadline τs) (suc horizon - least_deadline τs) ≡ p → deadlines_at p ≡ Missed t
         → (least_deadline τs ≤ t) × (t ≤ horizon) × (t < total τs t) × ((s : ℕ) → least_deadline τs ≤ s → s < t → total τs s ≤ s)
-    go Nowhere p d = let z : ◌≡◌ {A = ℕ} 0 1 = cc in absurd (omega arith)
-    go (At k) p d =
+    go None p d = let z : ◌≡◌ {A = ℕ} 0 1 = cc in absurd (omega arith)
+    go (Some k) p d =
         let same : k ≡ t = cc in
-        let is : lowest_from (meets_at τs) (least_deadline τs) (suc horizon - least_deadline τs) ≡ At t = p ∙ ap At same in
+        let is : lowest_from (meets_at τs) (least_deadline τs) (suc horizon - least_deadline τs) ≡ Some t = p ∙ ap Some same in
         let first = lowest-found (meets_at τs) (least_deadline τs) (suc horizon - least_deadline τs) t is in
         let within = lowest-within (meets_at τs) (least_deadline τs) (suc horizon - least_deadline τs) t is in
         (first.0, omega arith, fails-is τs t first.1, λ s f u. meets-is τs s (first.2 s f u))

@@ -1,9 +1,7 @@
 -- What the call answers (document 02, item 13). Assumes nothing.
-use Rattle.std.specs.Prelude.{ℕ, Bool, true, cond, ◌&&◌, List, [], ◌∷◌, leb, length}
-use Rattle.model.specs.Answers.{on_accepted}
+use Rattle.std.specs.Prelude.{ℕ, Bool, true, cond, ◌&&◌, List, [], ◌∷◌, leb, length, Err}
+use Rattle.model.specs.Answers.{accept, Verdict, on_accepted}
 use Rattle.model.specs.declared.Refusal.TheVariants.{WrongTaskSet}
-use Rattle.model.specs.declared.Verdict.{Verdict}
-use Rattle.model.specs.declared.Verdict.TheVariants.{Accepted, Refused}
 use Rattle.demand.specs.Demand.{most_ticks, deadlines_of}
 use Rattle.demand.specs.declared.Answer.{Answer}
 use Rattle.demand.specs.declared.Deadlines.TheVariants.{Missed}
@@ -30,7 +28,7 @@ right_set n τs = leb 1 n && leb n most_tasks && right_tasks τs
 
 -- refusal 16
 unfoldable pub set_verdict : ℕ → List TaskRecord → ℕ → Verdict
-set_verdict n τs horizon = cond (right_set n τs && leb horizon most_ticks) Accepted (Refused WrongTaskSet)
+set_verdict n τs horizon = cond (right_set n τs && leb horizon most_ticks) accept (Err WrongTaskSet)
 
 -- the answer; a refusal carries a miss at 0, which no set has
 unfoldable pub answer_of : ℕ → List TaskRecord → ℕ → Answer

@@ -1,7 +1,7 @@
 -- Task sets worked by hand (document 02, item 13). Assumes nothing.
 use Rattle.std.specs.Prelude.{ℕ, ◌≤◌, ◌≡◌, List, [], ◌∷◌, replicate}
+use Rattle.model.specs.Answers.{accept}
 use Rattle.model.specs.Cases.{RefusedBy}
-use Rattle.model.specs.declared.Verdict.TheVariants.{Accepted}
 use Rattle.demand.specs.Demand.{most_ticks, total}
 use Rattle.demand.specs.Calls.{answer}
 use Rattle.demand.specs.Loading.{task}
@@ -17,7 +17,7 @@ pub data Case : Type 0 where
   refused : List TaskRecord → ℕ → ℕ → ℕ → Case  -- refused by this number at this place
 
 abbrev pub accepting : Deadlines → Answer
-accepting d = record { verdict = Accepted; deadlines = d }
+accepting d = record { verdict = accept; deadlines = d }
 
 abbrev pub CaseHolds : Case → Type 0
 CaseHolds (met_up_to τs horizon) = answer τs horizon ≡ accepting Met

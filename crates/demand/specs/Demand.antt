@@ -1,9 +1,7 @@
 -- What the tasks of a set demand of the processor and what blocks them, at every whole t, and whether all deadlines are met (document 02, item 13,
 -- with document 000's demand bound function). A number of ticks has no width here. Assumes nothing.
-use Rattle.std.specs.Prelude.{ℕ, suc, ◌+◌, ◌-◌, ◌*◌, ◌/◌, min, max, Bool, cond, List, [], ◌∷◌, leb, ltb}
+use Rattle.std.specs.Prelude.{ℕ, suc, ◌+◌, ◌-◌, ◌*◌, ◌/◌, min, max, Bool, cond, List, [], ◌∷◌, leb, ltb, None, Option, Some}
 use Rattle.model.specs.Lists.{lowest_from}
-use Rattle.model.specs.declared.Place.{Place}
-use Rattle.model.specs.declared.Place.TheVariants.{Nowhere, At}
 use Rattle.demand.specs.declared.Deadlines.{Deadlines}
 use Rattle.demand.specs.declared.Deadlines.TheVariants.{Met, Missed}
 use Rattle.demand.specs.declared.TaskRecord.{TaskRecord}
@@ -47,9 +45,9 @@ least_deadline [] = most_ticks + 1
 least_deadline (τ ∷ τs) = min τ.deadline (least_deadline τs)
 
 -- the cases of the answer: no t fails, or t is the first that does
-abbrev pub deadlines_at : Place → Deadlines
-deadlines_at Nowhere = Met
-deadlines_at (At t) = Missed t
+abbrev pub deadlines_at : Option ℕ → Deadlines
+deadlines_at None = Met
+deadlines_at (Some t) = Missed t
 
 -- every whole t from the smallest deadline up to the horizon is looked at; there is none where the horizon is below it
 unfoldable pub deadlines_of : List TaskRecord → ℕ → Deadlines

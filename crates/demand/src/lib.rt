@@ -7,7 +7,7 @@ ghost use Rattle.demand.specs.Calls.{most_tasks, in_range, right_task, right_set
 ghost use Rattle.demand.specs.Loading.{task, no_tasks, with_task, loaded_set};
 ghost use Rattle.demand.specs.Lanes.{Holds, Spread, Ranged, below, at_instant, moved, latest, blocked_by, ended_by, BlockedUntil};
 
-use model::{Refusal, Verdict};
+use model::Refusal;
 
 // The most ticks of a field and of the horizon.
 const MOST_TICKS: u32 = 16777215;
@@ -42,7 +42,7 @@ pub enum Deadlines {
 // What the test answers.
 #[derive(Clone, Copy)]
 pub struct Answer {
-    pub verdict: Verdict,
+    pub verdict: Result<(), Refusal>,
     pub deadlines: Deadlines,
 }
 
@@ -133,12 +133,12 @@ pub fn test_set(set: TaskSet, horizon: u32) -> Answer
 {
     if right_set(set) & (horizon <= MOST_TICKS) {
         Answer {
-            verdict: Verdict::Accepted,
+            verdict: Ok(()),
             deadlines: first_miss(set, horizon),
         }
     } else {
         Answer {
-            verdict: Verdict::Refused(Refusal::WrongTaskSet),
+            verdict: Err(Refusal::WrongTaskSet),
             deadlines: Deadlines::Missed(0),
         }
     }

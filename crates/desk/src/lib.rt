@@ -6,10 +6,9 @@ ghost use Rattle.std.specs.Prelude.{◌≡◌, ◌+◌, ◌≤◌, length, take,
 ghost use Rattle.std.specs.Io.{ReadsAtMost};
 ghost use Rattle.decimals.specs.Decimals.{AtMost};
 
-use decimals::Decimal;
 use itoa::Buffer;
 use lineset::LineSet;
-use model::{Refusal, Verdict};
+use model::Refusal;
 use std::env::FillError;
 use std::io::{Error, ErrorKind, Read};
 use std::rt::{Env, Files};
@@ -33,7 +32,7 @@ fn fill_argument(rt: &impl Env, i: usize, text: &mut [u8]) -> usize
 }
 
 // Argument i as a number, or the bound where it is more.
-pub fn capped_argument(rt: &impl Env, i: usize, most: u32) -> Decimal
+pub fn capped_argument(rt: &impl Env, i: usize, most: u32) -> Option<u64>
     ensures { AtMost most result }
 {
     let mut text = [0u8; 4096];
@@ -42,24 +41,24 @@ pub fn capped_argument(rt: &impl Env, i: usize, most: u32) -> Decimal
 }
 
 // Argument i as a number of at most so much; an argument that is missing or longer than 4,096 bytes says nothing.
-pub fn argument(rt: &impl Env, i: usize, most: u64) -> Decimal
+pub fn argument(rt: &impl Env, i: usize, most: u64) -> Option<u64>
     ensures { AtMost most result }
 {
     let mut text = [0u8; 4096];
     let n = fill_argument(rt, i, &mut text);
-    let Decimal::Number(number) = decimals::decimal_of(&text[..n]) else {
-        return Decimal::Nothing;
+    let Some(number) = decimals::decimal_of(&text[..n]) else {
+        return None;
     };
     if most < number {
-        return Decimal::Nothing;
+        return None;
     }
-    Decimal::Number(number)
+    Some(number)
 }
 
 // Puts the numbers that the arguments give into a list, and answers whether they are numbers of at most so much, and as many as the list holds.
 pub fn arguments(rt: &impl Env, numbers: &mut [u64], most: u64) -> bool {
     for i in 0..numbers.len() {
-        let Decimal::Number(number) = argument(rt, i + 1, most) else {
+        let Some(number) = argument(rt, i + 1, most) else {
             return false;
         };
         numbers[i] = number;
@@ -80,22 +79,22 @@ pub fn argument_count(rt: &impl Env) -> usize {
 
 // Puts the points that the arguments give into a list, and answers how many it has; nothing where an argument is no number of two bytes. A
 // well-formed list has at most 63 points, so the first 64 decide at which of them a longer list is refused.
-pub fn read_points(rt: &impl Env, points: &mut [u16; 64]) -> Decimal
+pub fn read_points(rt: &impl Env, points: &mut [u16; 64]) -> Option<u64>
     ensures { AtMost 64 result }
 {
     let count = argument_count(rt);
     for i in 0..count {
-        let Decimal::Number(point) = argument(rt, i + 1, 65535) else {
-            return Decimal::Nothing;
+        let Some(point) = argument(rt, i + 1, 65535) else {
+            return None;
         };
         if i < 64 {
             points[i] = point as u16;
         }
     }
     if count < 64 {
-        Decimal::Number(count as u64)
+        Some(count as u64)
     } else {
-        Decimal::Number(64)
+        Some(64)
     }
 }
 
@@ -281,10 +280,10 @@ pub fn report_refusal(rt: &impl Eprint, refusal: Refusal, place: usize) -> io::R
 }
 
 // The line of a verdict that has no value beside it.
-pub fn print_verdict(rt: &impl Print, verdict: Verdict) -> io::Result<()> {
+pub fn print_verdict(rt: &impl Print, verdict: Result<(), Refusal>) -> io::Result<()> {
     match verdict {
-        Verdict::Accepted => print(rt, b"accepted\n"),
-        Verdict::Refused(refusal) => print_refusal(rt, refusal),
+        Ok(()) => print(rt, b"accepted\n"),
+        Err(refusal) => print_refusal(rt, refusal),
     }
 }
 

@@ -1,5 +1,6 @@
 -- A walk along the bits of a number: the regions so far and the remaining points make the whole
 -- list. Fits and sums that agree on regions agree on lists. Assumes nothing.
+use Rattle.std.specs.Prelude.{None, Some}
 use Prim.Native.Nat.{ℕ, suc, ◌+◌, ◌-◌, ◌*◌, ◌/◌, ◌%◌, ◌^◌, ◌≤◌, ◌<◌}
 use mathlib.Core.Path.{◌≡◌, refl, sym, ap, ap₂, ◌∙◌, fun_ext}
 use mathlib.Core.Bool.{Bool, true, false, not, ◌&&◌, and_assoc, and-true, and-eq-true_iff}
@@ -14,7 +15,6 @@ use Rattle.model.specs.Regions.{region_lines, region_fits, region_cost}
 use Rattle.enumerating.specs.Numbers.{points_after, list_of}
 use Rattle.enumerating.specs.Search.{next_number, entry_of, found_at, next_found, next_in, if_fitting}
 use Rattle.enumerating.specs.Table.{fit_in, number_in, RegionTable}
-use Rattle.enumerating.specs.declared.Found.TheVariants.{NoMore, Fitting}
 use Rattle.enumerating.proofs.Numbers.{list_right}
 use Rattle.enumerating.proofs.Filling.{held}
 
@@ -105,11 +105,11 @@ module _ (fit : ℕ → ℕ → Bool) (lines costs : ℕ → ℕ → ℕ) (n m :
   -- what is found of a list that fits, and of one that does not
   module _ {whole : Bool} (fits : list_fits fit n (list_of n m) ≡ whole) where
     pub if-fits : {line cost : ℕ} → list_cost lines n (list_of n m) ≡ line → list_cost costs n (list_of n m) ≡ cost → whole ≡ true
-        → Fitting (record { number = m; lines = line; cost = cost }) ≡ if_fitting fit lines costs n m
+        → Some (record { number = m; lines = line; cost = cost }) ≡ if_fitting fit lines costs n m
     unfolding entry_of
     if-fits l c e = rw (fits ∙ e, l, c) refl
 
-    pub if-above : whole ≡ false → NoMore ≡ if_fitting fit lines costs n m
+    pub if-above : whole ≡ false → None ≡ if_fitting fit lines costs n m
     if-above e = rw (fits ∙ e) refl
 
 -- fits and sums that agree on the regions of a well-formed list

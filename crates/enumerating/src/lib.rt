@@ -36,7 +36,7 @@ struct Walk {
 }
 
 // The fitting list of the lowest number at or above the start.
-pub fn find_next(file: &[u8], start: u64) -> Found
+pub fn find_next(file: &[u8], start: u64) -> Option<FittingList>
     requires { IsAccepted file.now × (block_count (task_of file.now) ≤ 16) }
     ensures { result ≡ next_in (task_of file.now) start }
 {
@@ -116,7 +116,7 @@ pub fn next_fitting(
     costs: &[u64; 272],
     blocks: usize,
     start: u64,
-) -> Found
+) -> Option<FittingList>
     requires { (1 ≤ blocks) × (blocks ≤ 16) × Small lines.now costs.now }
     ensures { result ≡ next_found (fit_in fits.now) (number_in lines.now) (number_in costs.now) blocks start }
 {
@@ -124,12 +124,12 @@ pub fn next_fitting(
     let mut number = start;
     while number < end {
         let found = if_fitting(fits, lines, costs, blocks, number);
-        let Found::NoMore = found else {
+        let None = found else {
             return found;
         };
         number += 1;
     }
-    Found::NoMore
+    None
 }
 
 // The list of a number if it fits: a walk along the bits, which ends a region at each point.
@@ -139,7 +139,7 @@ fn if_fitting(
     costs: &[u64; 272],
     blocks: usize,
     number: u64,
-) -> Found
+) -> Option<FittingList>
     requires { (1 ≤ blocks) × (blocks ≤ 16) × Small lines.now costs.now }
     ensures { result ≡ if_fitting (fit_in fits.now) (number_in lines.now) (number_in costs.now) blocks number }
 {
@@ -160,13 +160,13 @@ fn if_fitting(
     }
     let whole = walk.ended(fits, lines, costs, blocks);
     if whole.fits {
-        Found::Fitting(FittingList {
+        Some(FittingList {
             number,
             lines: whole.lines,
             cost: whole.cost,
         })
     } else {
-        Found::NoMore
+        None
     }
 }
 

@@ -1,5 +1,6 @@
 -- What the planner answers can be returned and stored: its places are at most 97, and an accepted plan fits a block.
 -- Assumes nothing.
+use Rattle.std.specs.Prelude.{Err, Ok}
 use Prim.Native.Nat.{ℕ, ◌+◌, ◌≤◌}
 use mathlib.Core.Path.{◌≡◌, refl, sym, ap, ◌∙◌}
 use mathlib.Core.Bool.{true}
@@ -10,13 +11,11 @@ use lib.ListN.{length, length-take}
 use Rattle.model.specs.Task.{block_count}
 use Rattle.model.specs.Lists.{well_formed}
 use Rattle.model.specs.Regions.{NoPlacementFits}
-use Rattle.model.specs.Answers.{place, verdict_place, on_accepted, and_then, output_row, pricing, most_blocks}
+use Rattle.model.specs.Answers.{accept, Verdict, place, verdict_place, on_accepted, and_then, output_row, pricing, most_blocks}
 use Rattle.model.specs.Planning.{chosen, plan_for, no_plan, Planned}
 use Rattle.model.specs.declared.Plan.{Plan}
 use Rattle.model.specs.declared.Refusal.{Refusal}
 use Rattle.model.specs.declared.Refusal.TheVariants.{NoPlacement, Output}
-use Rattle.model.specs.declared.Verdict.{Verdict}
-use Rattle.model.specs.declared.Verdict.TheVariants.{Accepted, Refused}
 use Rattle.model.proofs.Verdicts.{never_both, both-accepted, output-refuses}
 use Rattle.model.proofs.Regions.{accepted-well-formed}
 use Rattle.model.proofs.Places.{then-most, of-most, pricing-most}
@@ -33,7 +32,7 @@ use Rattle.planner.specs.Calls.{PlanAnswer, block_verdict, block_input, block_pl
 use Rattle.firmware.specs.Calls.{returned, PlanCall, StoredBest}
 
 -- the plan of a well-formed list of an accepted file
-stores : (file ps : List ℕ) → verdict file ≡ Accepted → well_formed (block_count (task_of file)) ps ≡ true → plan_verdict (plan_for (task_of file) ps) ≡ Accepted
+stores : (file ps : List ℕ) → verdict file ≡ accept → well_formed (block_count (task_of file)) ps ≡ true → plan_verdict (plan_for (task_of file) ps) ≡ accept
 stores file ps e w =
     let a = files.accepted file e in
     let n = files.block-count file in
@@ -44,23 +43,23 @@ stores file ps e w =
 pub plan-most : (file : List ℕ) (v : Verdict) (p : Plan) → PlanAnswer file v p → verdict_place v ≤ most_blocks
 plan-most file v p answer = go (verdict file) refl
   where
-    none : (v ≡ Accepted) ⊎ (v ≡ Refused NoPlacement) → verdict_place v ≤ most_blocks
+    none : (v ≡ accept) ⊎ (v ≡ Err NoPlacement) → verdict_place v ≤ most_blocks
     none (inl e) = rw e (omega arith)
     none (inr e) = rw e (omega arith)
 
     go : (w : Verdict) → verdict file ≡ w → verdict_place v ≤ most_blocks
-    go Accepted e = none (answer.planned e).answers
-    go (Refused x) e = rw (answer.refused x e).0 (rw e at (verdict-most file))
+    go (Ok u) e = none (answer.planned e).answers
+    go (Err x) e = rw (answer.refused x e).0 (rw e at (verdict-most file))
 
-pub plan-stores : (file : List ℕ) (v : Verdict) (p : Plan) → PlanAnswer file v p → v ≡ Accepted → plan_verdict p ≡ Accepted
+pub plan-stores : (file : List ℕ) (v : Verdict) (p : Plan) → PlanAnswer file v p → v ≡ accept → plan_verdict p ≡ accept
 plan-stores file v p answer a = go (verdict file) refl
   where
-    go : (w : Verdict) → verdict file ≡ w → plan_verdict p ≡ Accepted
-    go Accepted e = rw ((answer.planned e).follows a) (stores file (chosen p) e ((answer.planned e).best a).least-cost.well-formed)
-    go (Refused x) e = absurd (never_both (sym a ∙ (answer.refused x e).0))
+    go : (w : Verdict) → verdict file ≡ w → plan_verdict p ≡ accept
+    go (Ok u) e = rw ((answer.planned e).follows a) (stores file (chosen p) e ((answer.planned e).best a).least-cost.well-formed)
+    go (Err x) e = absurd (never_both (sym a ∙ (answer.refused x e).0))
 
 -- a block of another length is refused by 9 at 0
-pub plan-output : (file block : List ℕ) (x : Refusal) (r : ℕ) → output_row 512 (length block) ≡ Refused x → r ≡ returned (Refused x) 0
+pub plan-output : (file block : List ℕ) (x : Refusal) (r : ℕ) → output_row 512 (length block) ≡ Err x → r ≡ returned (Err x) 0
     → PlanCall file block r block
 plan-output file block x r row e =
     record {
@@ -71,7 +70,7 @@ plan-output file block x r row e =
     }
 
 -- what `leave` does with the answer is what the call promises
-pub plan-call : (file block : List ℕ) (v : Verdict) (p : Plan) (r : ℕ) (left : List ℕ) → output_row 512 (length block) ≡ Accepted → PlanAnswer file v p
+pub plan-call : (file block : List ℕ) (v : Verdict) (p : Plan) (r : ℕ) (left : List ℕ) → output_row 512 (length block) ≡ accept → PlanAnswer file v p
     → r ≡ returned v (verdict_place v) → left ≡ on_accepted v (plan_bytes p) block → PlanCall file block r left
 plan-call file block v p r left long answer e f =
     record {
@@ -79,11 +78,11 @@ plan-call file block v p r left long answer e f =
       planned = λ q. let known = answer.planned (rw long at q) in cases known known.answers;
     }
   where
-    refuses : (x : Refusal) → v ≡ Refused x → (r ≡ returned (Refused x) (place x)) × (left ≡ block)
+    refuses : (x : Refusal) → v ≡ Err x → (r ≡ returned (Err x) (place x)) × (left ≡ block)
     refuses x a = (e ∙ rw a refl, f ∙ rw a refl)
 
-    cases : Planned (task_of file) v p → (v ≡ Accepted) ⊎ (v ≡ Refused NoPlacement)
-        → (NoPlacementFits (task_of file) × (r ≡ returned (Refused NoPlacement) 0) × (left ≡ block)) ⊎ (StoredBest (task_of file) left × (r ≡ 0))
+    cases : Planned (task_of file) v p → (v ≡ accept) ⊎ (v ≡ Err NoPlacement)
+        → (NoPlacementFits (task_of file) × (r ≡ returned (Err NoPlacement) 0) × (left ≡ block)) ⊎ (StoredBest (task_of file) left × (r ≡ 0))
     cases known (inl a) =
         inr (
           record { points = chosen p; best = known.best a; bytes = f ∙ rw a (ap plan_bytes (known.follows a)) },
@@ -95,8 +94,8 @@ plan-call file block v p r left long answer e f =
 
 module _ (file points : List ℕ) where
   -- an accepted answer's parts
-  parts : block_verdict file points ≡ Accepted
-      → (verdict file ≡ Accepted) × (read_verdict points ≡ Accepted) × (pricing (task_of file) (chosen (plan_of points)) ≡ Accepted)
+  parts : block_verdict file points ≡ accept
+      → (verdict file ≡ accept) × (read_verdict points ≡ accept) × (pricing (task_of file) (chosen (plan_of points)) ≡ accept)
   unfolding block_verdict
   parts e =
       let first = both-accepted (verdict file) (and_then (read_verdict points) (pricing (task_of file) (chosen (plan_of points)))) e in
@@ -116,7 +115,7 @@ module _ (file points : List ℕ) where
   unfolding block_place
   block-most = omega (arith, verdict-small, of-most (block_input file points) (block_verdict file points))
 
-  pub block-stores : block_verdict file points ≡ Accepted → plan_verdict (block_plan file points) ≡ Accepted
+  pub block-stores : block_verdict file points ≡ accept → plan_verdict (block_plan file points) ≡ accept
   unfolding block_plan
   block-stores e =
       let all = parts e in
@@ -130,5 +129,5 @@ module _ (file points : List ℕ) where
     where
       go : (v : Verdict) → on_accepted v (plan_bytes (on_accepted v (plan_for (task_of file) (chosen (plan_of points))) no_plan)) block
           ≡ on_accepted v (plan_bytes (plan_for (task_of file) (chosen (plan_of points)))) block
-      go Accepted = refl
-      go (Refused x) = refl
+      go (Ok u) = refl
+      go (Err x) = refl

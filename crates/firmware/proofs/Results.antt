@@ -1,5 +1,6 @@
 -- What planning returns and leaves is one number and one block for a file: a stored plan is that of the first list of least cost, and that list is one.
 -- Assumes nothing.
+use Rattle.std.specs.Prelude.{Err, Ok}
 use Prim.Native.Nat.{ℕ}
 use mathlib.Core.Path.{◌≡◌, refl, sym, ap, ◌∙◌}
 use mathlib.Core.Logic.{◌⊎◌, inl, inr}
@@ -7,12 +8,10 @@ use mathlib.Core.List.{List}
 use native.Mathlib.Omega.{arith}
 use Rattle.model.specs.Task.{Task, block_count}
 use Rattle.model.specs.Regions.{region_fits, region_cost, NoPlacementFits}
-use Rattle.model.specs.Answers.{place}
+use Rattle.model.specs.Answers.{Verdict, place}
 use Rattle.model.specs.Planning.{plan_for}
 use Rattle.model.specs.declared.Refusal.{Refusal}
 use Rattle.model.specs.declared.Refusal.TheVariants.{Length, Checksum, WrongHeader, BlockCount, WrongBlock, NoPlacement, Argument, AboveLimit, Output, OutOfRange, Mismatch, TooManyBlocks, WrongTraceLine, WrongTrace, LongTask, WrongTaskSet, WrongText}
-use Rattle.model.specs.declared.Verdict.{Verdict}
-use Rattle.model.specs.declared.Verdict.TheVariants.{Accepted, Refused}
 use Rattle.model.proofs.Order.{one-first}
 use Rattle.taskfile.specs.File.{task_of}
 use Rattle.planblock.specs.Plans.{plan_bytes}
@@ -22,7 +21,7 @@ use Rattle.firmware.specs.Statements.{OneCall, OneBlock}
 -- what is promised for an accepted file and a block of 512 bytes
 abbrev Outcome : List ℕ → List ℕ → ℕ → List ℕ → Type 0
 Outcome file block r left =
-    (NoPlacementFits (task_of file) × (r ≡ returned (Refused NoPlacement) 0) × (left ≡ block)) ⊎ (StoredBest (task_of file) left × (r ≡ 0))
+    (NoPlacementFits (task_of file) × (r ≡ returned (Err NoPlacement) 0) × (left ≡ block)) ⊎ (StoredBest (task_of file) left × (r ≡ 0))
 
 one-stored : (t : Task) (left right : List ℕ) → StoredBest t left → StoredBest t right → left ≡ right
 one-stored t left right a b =
@@ -45,11 +44,11 @@ one-call file block r s left right a b = go (plan_checks file block) refl
     both (inr one) (inr other) = (one.1 ∙ sym other.1, one-stored (task_of file) left right one.0 other.0)
 
     go : (v : Verdict) → plan_checks file block ≡ v → (r ≡ s) × (left ≡ right)
-    go (Refused x) e = alike (a.refused x e) (b.refused x e)
-    go Accepted e = both (a.planned e) (b.planned e)
+    go (Err x) e = alike (a.refused x e) (b.refused x e)
+    go (Ok u) e = both (a.planned e) (b.planned e)
 
 -- no refusal returns 0
-refused-returns : (x : Refusal) → 0 ≡ returned (Refused x) (place x) → ⊥
+refused-returns : (x : Refusal) → 0 ≡ returned (Err x) (place x) → ⊥
 refused-returns Length e = omega arith
 refused-returns (Checksum k) e = omega arith
 refused-returns WrongHeader e = omega arith
@@ -76,8 +75,8 @@ is-stored file block left a = go (plan_checks file block) refl
     found (inr some) = some.0
 
     go : (v : Verdict) → plan_checks file block ≡ v → StoredBest (task_of file) left
-    go Accepted e = found (a.planned e)
-    go (Refused x) e = absurd (refused-returns x (a.refused x e).0)
+    go (Ok u) e = found (a.planned e)
+    go (Err x) e = absurd (refused-returns x (a.refused x e).0)
 
 pub one_block : OneBlock
 one_block file block other left right a b = one-stored (task_of file) left right (is-stored file block left a) (is-stored file other right b)

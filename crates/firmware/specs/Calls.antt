@@ -1,14 +1,12 @@
 -- What the two C calls return, and what they leave in the lent block (document 01, "Stretches and price" and "Numbers given to the build").
 -- A refusal leaves the block as it was. Assumes nothing.
-use Rattle.std.specs.Prelude.{ℕ, ◌+◌, ◌*◌, ◌≡◌, ◌⊎◌, List, length}
+use Rattle.std.specs.Prelude.{ℕ, ◌+◌, ◌*◌, ◌≡◌, ◌⊎◌, List, length, Err}
 use Rattle.model.specs.Task.{Task}
 use Rattle.model.specs.Regions.{FirstBest, NoPlacementFits}
-use Rattle.model.specs.Answers.{place, verdict_number, on_accepted, and_then, output_row}
+use Rattle.model.specs.Answers.{accept, Verdict, place, verdict_number, on_accepted, and_then, output_row}
 use Rattle.model.specs.Planning.{chosen, plan_for}
 use Rattle.model.specs.declared.Refusal.{Refusal}
 use Rattle.model.specs.declared.Refusal.TheVariants.{NoPlacement}
-use Rattle.model.specs.declared.Verdict.{Verdict}
-use Rattle.model.specs.declared.Verdict.TheVariants.{Accepted, Refused}
 use Rattle.taskfile.specs.File.{verdict, task_of}
 use Rattle.planblock.specs.Plans.{plan_bytes, plan_of}
 use Rattle.planner.specs.Calls.{block_verdict, block_place}
@@ -29,9 +27,9 @@ plan_checks file block = and_then (output_row 512 (length block)) (verdict file)
 
 -- what it returns and leaves, of a file and the block's bytes
 pub record PlanCall (file block : List ℕ) (r : ℕ) (left : List ℕ) : Type 0 where
-  pub refused : (x : Refusal) → plan_checks file block ≡ Refused x → (r ≡ returned (Refused x) (place x)) × (left ≡ block)
-  pub planned : plan_checks file block ≡ Accepted
-      → (NoPlacementFits (task_of file) × (r ≡ returned (Refused NoPlacement) 0) × (left ≡ block)) ⊎ (StoredBest (task_of file) left × (r ≡ 0))
+  pub refused : (x : Refusal) → plan_checks file block ≡ Err x → (r ≡ returned (Err x) (place x)) × (left ≡ block)
+  pub planned : plan_checks file block ≡ accept
+      → (NoPlacementFits (task_of file) × (r ≡ returned (Err NoPlacement) 0) × (left ≡ block)) ⊎ (StoredBest (task_of file) left × (r ≡ 0))
 
 -- pricing the points of a first block: the other block's length is looked at first
 unfoldable pub price_call_verdict : List ℕ → List ℕ → List ℕ → Verdict

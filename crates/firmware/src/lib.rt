@@ -2,20 +2,20 @@
 #![tactic(auto)]
 
 ghost use Rattle.std.specs.Prelude.{◌≡◌, ◌<◌, length};
-ghost use Rattle.model.specs.Answers.{on_accepted};
+ghost use Rattle.model.specs.Answers.{accept, on_accepted};
 ghost use Rattle.planvalue.specs.Values.{plan_verdict};
 ghost use Rattle.planblock.specs.Plans.{plan_bytes};
 ghost use Rattle.firmware.specs.Calls as Calls;
 ghost use Rattle.firmware.specs.Calls.{PlanCall, price_returned, price_left};
 
-use model::{Plan, Verdict};
+use model::Plan;
 
 // Plans a task file and leaves its one plan in the block.
 pub fn preempt_plan(file: &[u8], block: &mut [u8]) -> u32
     ensures { PlanCall file.now block.old result block.new }
 {
     let output = answers::check_output(512, block.len());
-    let Verdict::Accepted = output else {
+    let Ok(()) = output else {
         return returned(output, 0);
     };
     let least = planner::least_plan(file);
@@ -30,7 +30,7 @@ pub fn preempt_price(file: &[u8], points: &[u8], block: &mut [u8]) -> u32
     ensures block_after { block.new ≡ price_left file.now points.now block.old }
 {
     let output = answers::check_output(512, block.len());
-    let Verdict::Accepted = output else {
+    let Ok(()) = output else {
         return returned(output, 0);
     };
     let priced = planner::price_block(file, points);
@@ -40,7 +40,7 @@ pub fn preempt_price(file: &[u8], points: &[u8], block: &mut [u8]) -> u32
 }
 
 // What a call returns: number and place in one number.
-fn returned(verdict: Verdict, place: usize) -> u32
+fn returned(verdict: Result<(), Refusal>, place: usize) -> u32
     requires { place < 65536 }
     ensures { result ≡ Calls.returned verdict place }
 {
@@ -48,8 +48,8 @@ fn returned(verdict: Verdict, place: usize) -> u32
 }
 
 // Leaves an accepted plan in the block, and answers what the call returns.
-fn leave(verdict: Verdict, place: usize, plan: Plan, block: &mut [u8]) -> u32
-    requires { (length block.old ≡ 512) × (verdict ≡ Verdict.Accepted → plan_verdict plan ≡ Verdict.Accepted) × (place < 65536) }
+fn leave(verdict: Result<(), Refusal>, place: usize, plan: Plan, block: &mut [u8]) -> u32
+    requires { (length block.old ≡ 512) × (verdict ≡ accept → plan_verdict plan ≡ accept) × (place < 65536) }
     ensures value { result ≡ Calls.returned verdict place }
     ensures block_after { block.new ≡ on_accepted verdict (plan_bytes plan) block.old }
 {
@@ -58,14 +58,14 @@ fn leave(verdict: Verdict, place: usize, plan: Plan, block: &mut [u8]) -> u32
 }
 
 // Leaves an accepted plan in the block.
-fn keep(verdict: Verdict, plan: Plan, block: &mut [u8])
-    requires { (length block.old ≡ 512) × (verdict ≡ Verdict.Accepted → plan_verdict plan ≡ Verdict.Accepted) }
+fn keep(verdict: Result<(), Refusal>, plan: Plan, block: &mut [u8])
+    requires { (length block.old ≡ 512) × (verdict ≡ accept → plan_verdict plan ≡ accept) }
     ensures { block.new ≡ on_accepted verdict (plan_bytes plan) block.old }
 {
     match verdict {
-        Verdict::Accepted => {
+        Ok(()) => {
             planblock::put_plan(plan, block);
         }
-        Verdict::Refused(_) => {}
+        Err(_) => {}
     }
 }

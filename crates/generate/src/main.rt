@@ -3,7 +3,6 @@
 
 ghost use Rattle.std.specs.Prelude.{◌≤◌};
 
-use model::Verdict;
 use std::io;
 
 // A number below 2^32, which each argument is asked to be, in four bytes.
@@ -31,8 +30,8 @@ fn write_file(rt: &(impl Print + Eprint), given: [u64; 6], file: &mut [u8]) -> i
         file,
     );
     match verdict {
-        Verdict::Accepted => desk::print(rt, file),
-        Verdict::Refused(refusal) => {
+        Ok(()) => desk::print(rt, file),
+        Err(refusal) => {
             desk::report_refusal(rt, refusal, answers::refusal_place(refusal))
         }
     }

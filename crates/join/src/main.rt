@@ -3,7 +3,6 @@
 
 ghost use Rattle.std.specs.Prelude.{◌≤◌};
 
-use model::Verdict;
 use std::io;
 
 // The bytes of the joined file: both, with one header. Where they are more than the largest buffer has, joining refuses all the same.
@@ -29,8 +28,8 @@ fn write_joined(
     let joined = joining::join(first, second, out);
     let verdict = joined.verdict;
     match verdict {
-        Verdict::Accepted => desk::print(rt, out),
-        Verdict::Refused(refusal) => desk::report_refusal(rt, refusal, joined.place),
+        Ok(()) => desk::print(rt, out),
+        Err(refusal) => desk::report_refusal(rt, refusal, joined.place),
     }
 }
 

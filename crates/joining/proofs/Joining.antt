@@ -1,13 +1,13 @@
 -- A joined file is accepted and its task is the joined one; so three files are joined in either order to the same bytes, and what is useful in a
 -- file stays useful.
 -- Assumes nothing.
+use Rattle.model.specs.Answers.{accept}
 use Prim.Native.Nat.{ℕ, ◌≤◌}
 use mathlib.Core.Path.{◌≡◌, refl, sym, ap, ◌∙◌}
 use mathlib.Core.List.{List}
 use native.Mathlib.Omega.{arith}
 use lib.ListN.{length}
 use Rattle.model.specs.Task.{Task, block_count}
-use Rattle.model.specs.declared.Verdict.TheVariants.{Accepted}
 use Rattle.model.proofs.Verdicts.{both-accepted, output-accepts}
 use Rattle.taskfile.specs.File.{task_of, file_of, verdict}
 use Rattle.taskfile.proofs.Files.{accepted-within}
@@ -18,8 +18,8 @@ use Rattle.joining.specs.Statements.{JoinedAccepted, JoinedInOrder, FirstContain
 use Rattle.joining.proofs.Tasks.{Agreeing, agreeing, agreeing-agree, few-fit, counts-fit, RowsAccept, rows-accept, count-joined, preempters-joined, within-joined, joined-assoc}
 use Rattle.joining.proofs.Contained.{useful-first, useful-second}
 
-module _ (first second out : List ℕ) (e : join_verdict first second out ≡ Accepted) where
-  parts : (verdict first ≡ Accepted) × (verdict second ≡ Accepted) × (join_rows (task_of first) (task_of second) (length out) ≡ Accepted)
+module _ (first second out : List ℕ) (e : join_verdict first second out ≡ accept) where
+  parts : (verdict first ≡ accept) × (verdict second ≡ accept) × (join_rows (task_of first) (task_of second) (length out) ≡ accept)
   unfolding join_verdict
   parts =
       let one = both-accepted (verdict first) _ e in
@@ -33,7 +33,7 @@ module _ (first second out : List ℕ) (e : join_verdict first second out ≡ Ac
   unfolding join_left
   left = rw e refl
 
-  made : (verdict (join_left first second out) ≡ Accepted) × (task_of (join_left first second out) ≡ joined (task_of first) (task_of second))
+  made : (verdict (join_left first second out) ≡ accept) × (task_of (join_left first second out) ≡ joined (task_of first) (task_of second))
   made =
       rw left
       (file-then-task (joined (task_of first) (task_of second))
@@ -51,9 +51,9 @@ second-contained first second out e k c h =
     (useful-second (task_of first) (task_of second) k c (agreeing (task_of first) (task_of second) (rows first second out e).agreed) h)
 
 -- files that agree, whose totals fit, and a buffer of the joined length
-join-accepts : (first second out : List ℕ) → verdict first ≡ Accepted → verdict second ≡ Accepted → Agreeing (task_of first) (task_of second)
+join-accepts : (first second out : List ℕ) → verdict first ≡ accept → verdict second ≡ accept → Agreeing (task_of first) (task_of second)
     → block_count (joined (task_of first) (task_of second)) ≤ 64 → length (joined (task_of first) (task_of second)).preempters ≤ 32
-    → length out ≡ length (file_of (joined (task_of first) (task_of second))) → join_verdict first second out ≡ Accepted
+    → length out ≡ length (file_of (joined (task_of first) (task_of second))) → join_verdict first second out ≡ accept
 unfolding join_verdict join_rows agree_row totals_row
 join-accepts first second out e f a h l long =
     let t : Task = task_of first in

@@ -7,10 +7,8 @@ use native.Mathlib.Omega.{arith}
 use lib.Dec.{eqb}
 use lib.ListN.{length}
 use Rattle.model.specs.Task.{block_count}
-use Rattle.model.specs.Answers.{verdict_place, place_of, output_row, most_blocks}
-use Rattle.model.specs.declared.Input.{Input}
+use Rattle.model.specs.Answers.{Input, Verdict, verdict_place, place_of, output_row, most_blocks}
 use Rattle.model.specs.declared.Refusal.TheVariants.{Output, Mismatch, TooManyBlocks}
-use Rattle.model.specs.declared.Verdict.{Verdict}
 use Rattle.model.proofs.Places.{then-most, test-most, of-most}
 use Rattle.answers.specs.Places.{place_answered}
 use Rattle.answers.proofs.Places.{place-answered}

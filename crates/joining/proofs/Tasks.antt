@@ -9,10 +9,8 @@ use lib.Dec.{eqb, leb}
 use lib.ListN.{length, length-append}
 use borrow.Author.Tests.{eqb-true, leb-true, eq-eqb, le-leb}
 use Rattle.model.specs.Task.{Task, block_count, line_count}
-use Rattle.model.specs.Answers.{and_then, output_row}
+use Rattle.model.specs.Answers.{accept, Verdict, and_then, output_row}
 use Rattle.model.specs.declared.Refusal.TheVariants.{Mismatch, TooManyBlocks}
-use Rattle.model.specs.declared.Verdict.{Verdict}
-use Rattle.model.specs.declared.Verdict.TheVariants.{Accepted}
 use Rattle.model.proofs.Verdicts.{both-accepted, row-holds, output-size}
 use Rattle.block.specs.Bytes.{Each}
 use Rattle.block.proofs.Each.{each_append}
@@ -71,7 +69,7 @@ pub record Roomy (n m size : ℕ) : Type 0 where
   pub fit : counts_fit n m ≡ true
   pub long : size ≡ 512 * (1 + n + m)
 
-pub room-accepts : (n m size : ℕ) → and_then (totals_row n m) (output_row (file_size n m) size) ≡ Accepted → Roomy n m size
+pub room-accepts : (n m size : ℕ) → and_then (totals_row n m) (output_row (file_size n m) size) ≡ accept → Roomy n m size
 unfolding totals_row
 room-accepts n m size e =
     let both = both-accepted (totals_row n m) (output_row (file_size n m) size) e in
@@ -82,14 +80,14 @@ pub record RowsAccept (t u : Task) (size : ℕ) : Type 0 where
   pub agreed : agree t u ≡ true
   pub room : Roomy (block_count (joined t u)) (length (joined t u).preempters) size
 
-pub rows-accept : (t u : Task) (size : ℕ) → join_rows t u size ≡ Accepted → RowsAccept t u size
+pub rows-accept : (t u : Task) (size : ℕ) → join_rows t u size ≡ accept → RowsAccept t u size
 unfolding join_rows agree_row
 rows-accept t u size e =
     let both = both-accepted (agree_row t u) _ e in
     record { agreed = row-holds Mismatch _ both.0; room = room-accepts _ _ size both.1 }
 
 -- if two rows together accept, the second one accepts
-pub second-accepts : (v a b : Verdict) → v ≡ and_then a b → v ≡ Accepted → b ≡ Accepted
+pub second-accepts : (v a b : Verdict) → v ≡ and_then a b → v ≡ accept → b ≡ accept
 second-accepts v a b e h = (both-accepted a b (sym e ∙ h)).1
 
 -- the joined task is within the limits of a file

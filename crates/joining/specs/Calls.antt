@@ -1,22 +1,19 @@
 -- What joining two files answers, and what it leaves in the lent buffer (document 02, item 8). Assumes nothing.
-use Rattle.std.specs.Prelude.{ℕ, cond, List, length}
+use Rattle.std.specs.Prelude.{ℕ, cond, List, length, Err}
 use Rattle.model.specs.Task.{Task, block_count}
-use Rattle.model.specs.Answers.{on_accepted, and_then, whose, place_of, output_row}
-use Rattle.model.specs.declared.Input.{Input}
+use Rattle.model.specs.Answers.{Input, accept, Verdict, on_accepted, and_then, whose, place_of, output_row}
 use Rattle.model.specs.declared.Refusal.TheVariants.{Mismatch, TooManyBlocks}
-use Rattle.model.specs.declared.Verdict.{Verdict}
-use Rattle.model.specs.declared.Verdict.TheVariants.{Accepted, Refused}
 use Rattle.taskfile.specs.File.{task_of, file_of, verdict}
 use Rattle.writer.specs.Writing.{file_size}
 use Rattle.joining.specs.Joining.{joined, agree, counts_fit}
 
 -- refusal 11: S, R, the scratch range or G differ (document 02, items 8 and 14)
 unfoldable pub agree_row : Task → Task → Verdict
-agree_row t u = cond (agree t u) Accepted (Refused Mismatch)
+agree_row t u = cond (agree t u) accept (Err Mismatch)
 
 -- refusal 12: too many basic blocks or preempters
 unfoldable pub totals_row : ℕ → ℕ → Verdict
-totals_row n m = cond (counts_fit n m) Accepted (Refused TooManyBlocks)
+totals_row n m = cond (counts_fit n m) accept (Err TooManyBlocks)
 
 -- the rows about two tasks and a buffer of this length, in their order; N and M are those of the joined task
 unfoldable pub join_rows : Task → Task → ℕ → Verdict

@@ -8,12 +8,12 @@ ghost use Rattle.taskfile.specs.File.{task_of, file_of, IsAccepted};
 ghost use Rattle.joining.specs.Joining.{joined, agree, Totals};
 ghost use Rattle.joining.specs.Calls.{agree_row, totals_row, join_rows, join_verdict, join_place, join_left};
 
-use model::{Header, Refusal, Verdict};
+use model::{Header, Refusal};
 
 // The answer of a join, and the place of a refusal.
 #[derive(Clone, Copy)]
 pub struct Joined {
-    pub verdict: Verdict,
+    pub verdict: Result<(), Refusal>,
     pub place: usize,
 }
 
@@ -47,28 +47,28 @@ fn same_board(first: &[u8], second: &[u8]) -> bool
 }
 
 // Refuses accepted files of different caches or switches.
-fn check_agree(first: &[u8], second: &[u8]) -> Verdict
+fn check_agree(first: &[u8], second: &[u8]) -> Result<(), Refusal>
     requires { IsAccepted first.now × IsAccepted second.now }
     ensures { result ≡ agree_row (task_of first.now) (task_of second.now) }
 {
     if same_board(first, second) {
-        Verdict::Accepted
+        Ok(())
     } else {
-        Verdict::Refused(Refusal::Mismatch)
+        Err(Refusal::Mismatch)
     }
 }
 
 // Refuses more basic blocks or preempters than a file has room for.
-fn check_totals(blocks: usize, preempters: usize) -> Verdict
+fn check_totals(blocks: usize, preempters: usize) -> Result<(), Refusal>
     ensures { result ≡ totals_row blocks preempters }
 {
     if blocks > 64 {
-        return Verdict::Refused(Refusal::TooManyBlocks);
+        return Err(Refusal::TooManyBlocks);
     }
     if preempters > 32 {
-        return Verdict::Refused(Refusal::TooManyBlocks);
+        return Err(Refusal::TooManyBlocks);
     }
-    Verdict::Accepted
+    Ok(())
 }
 
 // The header of the joined task: the first's, with the smaller limits.
@@ -107,7 +107,7 @@ fn put_joined(out: &mut [u8], first: &[u8], second: &[u8], blocks: usize, preemp
 }
 
 // Joins accepted files.
-fn join_accepted(out: &mut [u8], first: &[u8], second: &[u8]) -> Verdict
+fn join_accepted(out: &mut [u8], first: &[u8], second: &[u8]) -> Result<(), Refusal>
     requires { IsAccepted first.now × IsAccepted second.now }
     ensures value { result ≡ join_rows (task_of first.now) (task_of second.now) (length out.old) }
     ensures out_after { out.new ≡ on_accepted result (file_of (joined (task_of first.now) (task_of second.now))) out.old }
@@ -121,8 +121,8 @@ fn join_accepted(out: &mut [u8], first: &[u8], second: &[u8]) -> Verdict
     let later = answers::earlier(counts, output);
     let verdict = answers::earlier(agree, later);
     match verdict {
-        Verdict::Accepted => put_joined(out, first, second, blocks, preempters),
-        Verdict::Refused(_) => {}
+        Ok(()) => put_joined(out, first, second, blocks, preempters),
+        Err(_) => {}
     }
     verdict
 }
@@ -138,7 +138,7 @@ pub fn join(first: &[u8], second: &[u8], out: &mut [u8]) -> Joined
     let second_checked = taskfile::check(second);
     let input = answers::whose(first_checked, second_checked);
     let checked = answers::earlier(first_checked, second_checked);
-    let Verdict::Accepted = checked else {
+    let Ok(()) = checked else {
         return Joined {
             verdict: checked,
             place: answers::place_of(input, checked),

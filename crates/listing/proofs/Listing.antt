@@ -1,5 +1,7 @@
 -- The listing of a file is the entries, one after the other, of the numbers whose lists fit: by induction on how many numbers are left. So whatever
 -- is said of its members is said of numbers, and numbers and well-formed lists determine each other. Assumes nothing.
+use Rattle.std.specs.Prelude.{None, Option, Some}
+use Rattle.model.specs.Answers.{accept}
 use Prim.Native.Nat.{ℕ, zero, suc, ◌+◌, ◌-◌, ◌^◌, ◌≤◌, ◌<◌}
 use mathlib.Core.Path.{◌≡◌, refl, sym, ap, ap₂, ◌∙◌}
 use mathlib.Core.Bool.{Bool, true, false, cond, not, false≢true}
@@ -15,10 +17,7 @@ use Rattle.model.specs.Task.{Task, block_count}
 use Rattle.model.specs.Lists.{lowest_from}
 use Rattle.model.specs.Regions.{region_lines, region_fits, region_cost, lines, cost, fits}
 use Rattle.model.specs.Planning.{chosen, plan_for, Planned}
-use Rattle.model.specs.declared.Place.{Place}
-use Rattle.model.specs.declared.Place.TheVariants.{Nowhere, At}
 use Rattle.model.specs.declared.Plan.{Plan}
-use Rattle.model.specs.declared.Verdict.TheVariants.{Accepted}
 use Rattle.model.proofs.Lowest.{scan-next, scan-here, scan-end, lowest-nowhere, nowhere-lowest, lowest-within}
 use Rattle.taskfile.specs.File.{task_of}
 use Rattle.enumerating.specs.Numbers.{number_of, list_of}
@@ -26,7 +25,6 @@ use Rattle.enumerating.specs.Search.{passed_over, next_number, entry_of, found_a
 use Rattle.listing.specs.Calls.{list_verdict, next_of}
 use Rattle.listing.specs.Statements.{entry_of_list, FitsWell, IsNext, FindsLowest, FindsNoMore, Listed, ListingEnds, AllLists, ListsAll, LowestIsPlanned, EmptyIsRefused}
 use Rattle.enumerating.specs.declared.FittingList.{FittingList}
-use Rattle.enumerating.specs.declared.Found.TheVariants.{NoMore, Fitting}
 use Rattle.listing.proofs.Accepted.{is-accepted, positive, next-listed}
 use Rattle.enumerating.proofs.Numbers.{list_right}
 use Rattle.enumerating.proofs.Searching.{lowest-found}
@@ -165,7 +163,7 @@ module _ (t : Task) (positive : 0 < block_count t) where
         rising = kept-rising (over t) (entry t) (λ m. refl) 0 (last t);
       }
 
-module _ (file : List ℕ) (listed : list_verdict file ≡ Accepted) where
+module _ (file : List ℕ) (listed : list_verdict file ≡ accept) where
   -- the call finds the lowest number that is not passed over
   next-is : (start : ℕ) → next_of file start ≡ found_at (entry (task_of file)) (lowest_from (over (task_of file)) start (last (task_of file) - start))
   unfolding next_number over entry last
@@ -184,11 +182,11 @@ module _ (file : List ℕ) (listed : list_verdict file ≡ Accepted) where
       ap (found_at (entry t)) (scan-next (over t) s (suc s) (last t - s) (λ z. omega arith) (sym (add-one s)) e ∙ ap (lowest_from (over t) (suc s)) one_less) ∙
       sym (next-is (suc s))
 
-  next_here : (s : ℕ) → s < last (task_of file) → over (task_of file) s ≡ false → next_of file s ≡ Fitting (entry (task_of file) s)
+  next_here : (s : ℕ) → s < last (task_of file) → over (task_of file) s ≡ false → next_of file s ≡ Some (entry (task_of file) s)
   next_here s h e =
       let t = task_of file in next-is s ∙ ap (found_at (entry t)) (scan-here (over t) s (last t - s) (λ z. omega arith) e)
 
-  next-end : next_of file (last (task_of file)) ≡ NoMore
+  next-end : next_of file (last (task_of file)) ≡ None
   next-end = let t = task_of file in next-is (last t) ∙ ap (found_at (entry t)) (scan-end (over t) (last t) (last t - last t) (omega arith))
 
   kept-listed : (k s : ℕ) → s + k ≡ last (task_of file) → Listed (next_of file) s (kept (over (task_of file)) (entry (task_of file)) s k)
@@ -231,7 +229,7 @@ unfolding plan_for
 lowest-is-planned file listed ls h p answer =
     let t = task_of file in
     let all = lists-all file listed ls h in
-    let planned : Planned t Accepted p = answer.planned (is-accepted file listed) in
+    let planned : Planned t accept p = answer.planned (is-accepted file listed) in
     let best = (planned.best refl).least-cost in
     let cost-is : p.cost ≡ cost t (chosen p) = ap (λ (q : Plan). q.cost) (planned.follows refl) in (
       (entry_of_list t (chosen p), all.every (chosen p) (best.well-formed, best.fits), sym cost-is),
@@ -257,10 +255,10 @@ pub finds-lowest : FindsLowest
 unfolding last entry entry_of
 finds-lowest file start listed l e = go (lowest_from (over (task_of file)) start (last (task_of file) - start)) refl (sym (next-is file listed start) ∙ e)
   where
-    go : (x : Place) → lowest_from (over (task_of file)) start (last (task_of file) - start) ≡ x → found_at (entry (task_of file)) x ≡ Fitting l
+    go : (x : Option ℕ) → lowest_from (over (task_of file)) start (last (task_of file) - start) ≡ x → found_at (entry (task_of file)) x ≡ Some l
         → IsNext (task_of file) start l
-    go Nowhere p q = let z : ◌≡◌ {A = ℕ} 0 1 = cc in absurd (omega arith)
-    go (At m) p q =
+    go None p q = let z : ◌≡◌ {A = ℕ} 0 1 = cc in absurd (omega arith)
+    go (Some m) p q =
         let t = task_of file in
         let is : entry t m ≡ l = cc in
         let found = lowest-found (over t) start (last t - start) m p in
@@ -289,9 +287,9 @@ finds-no-more file start listed =
           ap (found_at (entry t)) (nowhere-lowest (over t) start (last t - start) (λ m h k. all-over (over t m) m refl h k none)),
     )
   where
-    nowhere : (x : Place) → found_at (entry (task_of file)) x ≡ NoMore → x ≡ Nowhere
-    nowhere Nowhere e = refl
-    nowhere (At m) e = let z : ◌≡◌ {A = ℕ} 0 1 = cc in absurd (omega arith)
+    nowhere : (x : Option ℕ) → found_at (entry (task_of file)) x ≡ None → x ≡ None
+    nowhere None e = refl
+    nowhere (Some m) e = let z : ◌≡◌ {A = ℕ} 0 1 = cc in absurd (omega arith)
 
     all-over : (x : Bool) (m : ℕ) → over (task_of file) m ≡ x → start ≤ m → m < start + (last (task_of file) - start)
         → ((ps : List ℕ) → FitsWell (task_of file) ps → start ≤ number_of ps → ⊥) → over (task_of file) m ≡ true

@@ -1,5 +1,5 @@
 -- What is shown of numbers, of the call and of its listing beside the contract (document 02, item 12). Assumes nothing.
-use Rattle.std.specs.Prelude.{ℕ, suc, ◌-◌, ◌^◌, ◌≤◌, ◌<◌, ◌≡◌, true, ◌↔◌, length, get_or}
+use Rattle.std.specs.Prelude.{ℕ, suc, ◌-◌, ◌^◌, ◌≤◌, ◌<◌, ◌≡◌, true, ◌↔◌, length, get_or, Err, None, Option, Some}
 use mathlib.Core.List.{List, [], ◌∷◌, map, Memᴰ}
 use Rattle.model.specs.Task.{Task, block_count}
 use Rattle.model.specs.Lists.{well_formed}
@@ -7,16 +7,13 @@ use Rattle.model.specs.Regions.{lines, cost, fits}
 use Rattle.model.specs.Cases.{file_seven}
 use Rattle.model.specs.declared.Plan.{Plan}
 use Rattle.model.specs.declared.Refusal.TheVariants.{NoPlacement}
-use Rattle.model.specs.declared.Verdict.{Verdict}
-use Rattle.model.specs.declared.Verdict.TheVariants.{Accepted, Refused}
+use Rattle.model.specs.Answers.{accept, Verdict}
 use Rattle.taskfile.specs.File.{task_of}
 use Rattle.planner.specs.Calls.{PlanAnswer}
 use Rattle.enumerating.specs.Numbers.{number_of, list_of}
 use Rattle.enumerating.specs.Search.{next_in}
 use Rattle.listing.specs.Calls.{list_verdict, next_of}
 use Rattle.enumerating.specs.declared.FittingList.{FittingList}
-use Rattle.enumerating.specs.declared.Found.{Found}
-use Rattle.enumerating.specs.declared.Found.TheVariants.{NoMore, Fitting}
 
 -- the numbers below 2 ^ (n - 1) and the well-formed lists for n blocks determine each other: each list has such a number, which is its own alone
 abbrev pub NumberOfList : Type 0
@@ -42,23 +39,23 @@ pub record IsNext (t : Task) (start : ℕ) (l : FittingList) : Type 0 where
 
 abbrev pub FindsLowest : Type 0
 FindsLowest =
-    (file : List ℕ) (start : ℕ) → list_verdict file ≡ Accepted → (l : FittingList) → next_of file start ≡ Fitting l → IsNext (task_of file) start l
+    (file : List ℕ) (start : ℕ) → list_verdict file ≡ accept → (l : FittingList) → next_of file start ≡ Some l → IsNext (task_of file) start l
 
 -- and it says "no more" exactly where no fitting list has such a number
 abbrev pub FindsNoMore : Type 0
 FindsNoMore =
-    (file : List ℕ) (start : ℕ) → list_verdict file ≡ Accepted
-    → (next_of file start ≡ NoMore) ↔ ((ps : List ℕ) → FitsWell (task_of file) ps → start ≤ number_of ps → ⊥)
+    (file : List ℕ) (start : ℕ) → list_verdict file ≡ accept
+    → (next_of file start ≡ None) ↔ ((ps : List ℕ) → FitsWell (task_of file) ps → start ≤ number_of ps → ⊥)
 
 -- the listing from a start: what the call finds, then what it finds from one above that number, and so on until it says "no more"
-unfoldable pub Listed : (ℕ → Found) → ℕ → List FittingList → Type 0
-Listed next start [] = next start ≡ NoMore
-Listed next start (l ∷ ls) = (next start ≡ Fitting l) × Listed next (suc l.number) ls
+unfoldable pub Listed : (ℕ → Option FittingList) → ℕ → List FittingList → Type 0
+Listed next start [] = next start ≡ None
+Listed next start (l ∷ ls) = (next start ≡ Some l) × Listed next (suc l.number) ls
 
 -- a file has one listing, and it ends after at most 2 ^ (N - 1) lists
 abbrev pub ListingEnds : Type 0
 ListingEnds =
-    (file : List ℕ) → list_verdict file ≡ Accepted
+    (file : List ℕ) → list_verdict file ≡ accept
     → (ls : List FittingList) × Listed (next_of file) 0 ls × (length ls ≤ 2 ^ (block_count (task_of file) - 1))
     × ((ms : List FittingList) → Listed (next_of file) 0 ms → ms ≡ ls)
 
@@ -69,20 +66,20 @@ pub record AllLists (t : Task) (ls : List FittingList) : Type 0 where
   pub rising : (i j : ℕ) → i < j → j < length ls → get_or (map (λ l. l.number) ls) i 0 < get_or (map (λ l. l.number) ls) j 0
 
 abbrev pub ListsAll : Type 0
-ListsAll = (file : List ℕ) → list_verdict file ≡ Accepted → (ls : List FittingList) → Listed (next_of file) 0 ls → AllLists (task_of file) ls
+ListsAll = (file : List ℕ) → list_verdict file ≡ accept → (ls : List FittingList) → Listed (next_of file) 0 ls → AllLists (task_of file) ls
 
 -- its lowest cost is that of the planner's plan
 abbrev pub LowestIsPlanned : Type 0
 LowestIsPlanned =
-    (file : List ℕ) → list_verdict file ≡ Accepted → (ls : List FittingList) → Listed (next_of file) 0 ls
-    → (p : Plan) → PlanAnswer file Accepted p
+    (file : List ℕ) → list_verdict file ≡ accept → (ls : List FittingList) → Listed (next_of file) 0 ls
+    → (p : Plan) → PlanAnswer file accept p
     → ((l : FittingList) × Memᴰ l ls × (l.cost ≡ p.cost)) × ((l : FittingList) → Memᴰ l ls → p.cost ≤ l.cost)
 
 -- and it is empty exactly when planning answers 6
 abbrev pub EmptyIsRefused : Type 0
 EmptyIsRefused =
-    (file : List ℕ) → list_verdict file ≡ Accepted → (ls : List FittingList) → Listed (next_of file) 0 ls
-    → (v : Verdict) (p : Plan) → PlanAnswer file v p → (ls ≡ []) ↔ (v ≡ Refused NoPlacement)
+    (file : List ℕ) → list_verdict file ≡ accept → (ls : List FittingList) → Listed (next_of file) 0 ls
+    → (v : Verdict) (p : Plan) → PlanAnswer file v p → (ls ≡ []) ↔ (v ≡ Err NoPlacement)
 
 -- document 02's worked case: File Seven at Q 40 has the lists 6 and 7, of cost 20
 abbrev pub SevenListed : Type 0

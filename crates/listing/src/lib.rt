@@ -5,8 +5,7 @@ ghost use Rattle.std.specs.Prelude.{◌≡◌, [], ◌≤◌, length};
 ghost use Rattle.enumerating.specs.Numbers.{list_of};
 ghost use Rattle.listing.specs.Calls.{list_verdict, next_of, next_points, in_array};
 
-use enumerating::Found;
-use model::{Refusal, Verdict};
+use model::Refusal;
 
 // The most basic blocks of a task whose lists are numbered.
 const MOST_BLOCKS: usize = 16;
@@ -21,8 +20,8 @@ pub struct Points {
 // The next fitting list, and its points; none on a refusal.
 #[derive(Clone, Copy)]
 pub struct NextList {
-    pub verdict: Verdict,
-    pub found: Found,
+    pub verdict: Result<(), Refusal>,
+    pub found: Option<FittingList>,
     pub count: usize,
     pub points: [u16; 16],
 }
@@ -35,11 +34,11 @@ pub fn next_list(file: &[u8], start: u64) -> NextList
     ensures points_value { result.points ≡ in_array (next_points file.now start) }
 {
     let verdict = check(file);
-    let Verdict::Accepted = verdict else {
+    let Ok(()) = verdict else {
         return no_list(verdict);
     };
     let found = enumerating::find_next(file, start);
-    let Found::Fitting(list) = found else {
+    let Some(list) = found else {
         return no_list(verdict);
     };
     let points = points_of(list.number, taskfile::block_count(file));
@@ -53,29 +52,29 @@ pub fn next_list(file: &[u8], start: u64) -> NextList
 }
 
 // What is answered where there is no list.
-fn no_list(verdict: Verdict) -> NextList
-    ensures { (result.verdict ≡ verdict) × (result.found ≡ Found.NoMore) × (result.count ≡ 0) × (result.points ≡ in_array []) }
+fn no_list(verdict: Result<(), Refusal>) -> NextList
+    ensures { (result.verdict ≡ verdict) × (result.found ≡ None) × (result.count ≡ 0) × (result.points ≡ in_array []) }
 {
     NextList {
         verdict,
-        found: Found::NoMore,
+        found: None,
         count: 0,
         points: [0; 16],
     }
 }
 
 // Whether the lists of a file are numbered: the file's refusal, or 15 for N above 16.
-pub fn check(file: &[u8]) -> Verdict
+pub fn check(file: &[u8]) -> Result<(), Refusal>
     ensures { result ≡ list_verdict file.now }
 {
     let checked = taskfile::check(file);
-    let Verdict::Accepted = checked else {
+    let Ok(()) = checked else {
         return checked;
     };
     if MOST_BLOCKS < taskfile::block_count(file) {
-        return Verdict::Refused(Refusal::LongTask);
+        return Err(Refusal::LongTask);
     }
-    Verdict::Accepted
+    Ok(())
 }
 
 // The points that the bits of a number say.

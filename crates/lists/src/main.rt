@@ -3,11 +3,10 @@
 #![tactic(auto)]
 
 ghost use Rattle.std.specs.Prelude.{◌≡◌, ◌≤◌};
+ghost use Rattle.model.specs.Answers.{accept};
 ghost use Rattle.enumerating.specs.Table.{Small};
 ghost use Rattle.listing.specs.Calls.{list_verdict};
 
-use enumerating::Found;
-use model::Verdict;
 use std::io;
 
 // Appends a number, a space and a cost to what a page holds.
@@ -39,7 +38,7 @@ fn print_all(
     let mut start = 0;
     loop {
         let found = enumerating::next_fitting(fits, lines, costs, blocks, start);
-        let Found::Fitting(list) = found else {
+        let Some(list) = found else {
             return desk::print_page(rt, &page, held);
         };
         held = collect_line(rt, &mut page, held, list.number, list.cost)?;
@@ -48,7 +47,7 @@ fn print_all(
 }
 
 fn print_lists(rt: &impl Print, file: &[u8]) -> io::Result<()>
-    requires { list_verdict file.now ≡ Verdict.Accepted }
+    requires { list_verdict file.now ≡ accept }
 {
     let mut fits = [false; 272];
     let mut lines = [0u32; 272];
@@ -60,8 +59,8 @@ fn print_lists(rt: &impl Print, file: &[u8]) -> io::Result<()>
 fn print_answer(rt: &impl Print, file: &[u8]) -> io::Result<()> {
     let verdict = listing::check(file);
     match verdict {
-        Verdict::Accepted => print_lists(rt, file),
-        Verdict::Refused(refusal) => desk::print_refusal(rt, refusal),
+        Ok(()) => print_lists(rt, file),
+        Err(refusal) => desk::print_refusal(rt, refusal),
     }
 }
 

@@ -1,5 +1,6 @@
 -- Every case of `cases` holds: a test that antt computes over the whole list, and one law that takes a passed test to the claim. A claim about
 -- every list of points is tested on the enumeration of all of them. Assumes nothing.
+use Rattle.std.specs.Prelude.{Err, None, Ok, Option, Some}
 use Prim.Native.Nat.{ℕ, zero, suc, ◌-◌, ◌<◌, ◌≤◌}
 use mathlib.Core.Path.{◌≡◌, refl, sym, ap, ◌∙◌}
 use mathlib.Core.Bool.{Bool, true, false, not, ◌&&◌, ◌||◌, beq, false≢true, and-eq-true_iff}
@@ -18,18 +19,12 @@ use Rattle.model.specs.Lists.{steps, regions, every, total, lowest, lowest_from,
 use Rattle.model.specs.Regions.{union_after, time_after, loaded, region_lines, switch_ticks, region_cost, region_length, armed_after, region_fits, lines, cost, fits, FirstBest, NoPlacementFits}
 use Rattle.model.specs.Charges.{touches, first_touching, charged_to, region_charge, charge, charges}
 use Rattle.model.specs.Replay.{miss, fetch, misses, after, emptied, at_edge, walk, misses_with, misses_alone}
-use Rattle.model.specs.Answers.{accepted, pricing, number, place}
+use Rattle.model.specs.Answers.{accept, Verdict, accepted, pricing, number, place}
 use Rattle.model.specs.Cases.{Case, useful_are, next_is, evicted_are, loaded_are, length_is, best_are, first_is, fitting_are, none_fits, priced, refused, line_is, on_no_line, replayed, charged, RefusedBy, CaseHolds, cases}
 use Rattle.model.specs.Planning.{chosen, Planned}
 use Rattle.model.specs.Laws.{CasesHold}
-use Rattle.model.specs.declared.Mapping.{Mapping}
-use Rattle.model.specs.declared.Mapping.TheVariants.{Uncached, Cached}
-use Rattle.model.specs.declared.Next.{Next}
-use Rattle.model.specs.declared.Next.TheVariants.{Read, Never}
 use Rattle.model.specs.declared.Plan.{Plan}
 use Rattle.model.specs.declared.Refusal.TheVariants.{NoPlacement}
-use Rattle.model.specs.declared.Verdict.{Verdict}
-use Rattle.model.specs.declared.Verdict.TheVariants.{Accepted, Refused}
 use Rattle.model.proofs.Verdicts.{is-accepted}
 use Rattle.model.proofs.LineStates.{lies-on, lies-nowhere}
 use Rattle.model.proofs.Lists.{same-list, list_same, enumerated}
@@ -58,24 +53,24 @@ some [] = false
 some (ps ∷ pss) = true
 
 refused_by : ℕ → ℕ → Verdict → Bool
-refused_by n i Accepted = false
-refused_by n i (Refused r) = eqb (number r) n && eqb (place r) i
+refused_by n i (Ok u) = false
+refused_by n i (Err r) = eqb (number r) n && eqb (place r) i
 
 -- where qs fits, ps costs less, or it costs the same and is qs or before it
 ahead : Task → List ℕ → List ℕ → Bool
 ahead t ps qs = not (fits t qs) || (ltb (cost t ps) (cost t qs) || eqb (cost t qs) (cost t ps) && (same_list ps qs || before ps qs))
 
-equal_next : Next → Next → Bool
-equal_next (Read m) (Read n) = eqb m n
-equal_next (Read m) Never = false
-equal_next Never (Read n) = false
-equal_next Never Never = true
+equal_next : Option ℕ → Option ℕ → Bool
+equal_next (Some m) (Some n) = eqb m n
+equal_next (Some m) None = false
+equal_next None (Some n) = false
+equal_next None None = true
 
-same_mapping : Mapping → Mapping → Bool
-same_mapping Uncached Uncached = true
-same_mapping Uncached (Cached d) = false
-same_mapping (Cached c) Uncached = false
-same_mapping (Cached c) (Cached d) = eqb c d
+same_mapping : Option ℕ → Option ℕ → Bool
+same_mapping None None = true
+same_mapping None (Some d) = false
+same_mapping (Some c) None = false
+same_mapping (Some c) (Some d) = eqb c d
 
 test : Case → Bool
 test (useful_are t k ds) = agree_below 512 (useful t k) (listed ds)
@@ -86,11 +81,11 @@ test (length_is t a b l) = eqb (region_length t a b) l
 test (best_are t p pss) = some pss && every_list (λ ps. eqb (cost t ps) p) pss && exactly t (λ ps. fits t ps && leb (cost t ps) p) pss
 test (first_is t ps) = well_formed (block_count t) ps && fits t ps && on_all t (ahead t ps)
 test (fitting_are t pss) = exactly t (fits t) pss
-test (none_fits t n i) = on_all t (λ ps. not (fits t ps)) && refused_by n i (Refused NoPlacement)
+test (none_fits t n i) = on_all t (λ ps. not (fits t ps)) && refused_by n i (Err NoPlacement)
 test (priced t ps l p) = accepted (pricing t ps) && eqb (lines t ps) l && eqb (cost t ps) p
 test (refused t ps n i) = refused_by n i (pricing t ps)
-test (line_is t m c) = same_mapping (line_of t m) (Cached c)
-test (on_no_line t m) = same_mapping (line_of t m) Uncached
+test (line_is t m c) = same_mapping (line_of t m) (Some c)
+test (on_no_line t m) = same_mapping (line_of t m) None
 test (replayed t ps a b) = eqb (misses_alone t) a && eqb (misses_with t ps) b
 test (charged t ps cs) = same_list (charges t ps) (cs ++ replicate (32 - length cs) 0)
 
@@ -198,33 +193,33 @@ module _ (t : Task) (ps : List ℕ) (w : well_formed (block_count t) ps ≡ true
             two_cases qs v g (λ l. absurd (omega arith)) (λ d s. or_cases (same_list ps qs) (before ps qs) s (λ h. absurd (ne (same-list ps qs h))) (λ h. h));
       }
 
-  gives : (v : Verdict) (p : Plan) → Planned t v p → (v ≡ Accepted) × (chosen p ≡ ps)
+  gives : (v : Verdict) (p : Plan) → Planned t v p → (v ≡ accept) × (chosen p ≡ ps)
   gives v p planned = go planned.answers
     where
-      go : (v ≡ Accepted) ⊎ (v ≡ Refused NoPlacement) → (v ≡ Accepted) × (chosen p ≡ ps)
+      go : (v ≡ accept) ⊎ (v ≡ Err NoPlacement) → (v ≡ accept) × (chosen p ≡ ps)
       go (inl e) = (e, one-first (block_count t) (region_fits t) (region_cost t) (chosen p) ps (planned.best e) is-first)
       go (inr e) = absurd (planned.none-fits e ps w f)
 
 is-refused : (n i : ℕ) (v : Verdict) → refused_by n i v ≡ true → RefusedBy n i v
 unfolding refused_by
-is-refused n i Accepted h = absurd (false≢true h)
-is-refused n i (Refused r) h =
+is-refused n i (Ok u) h = absurd (false≢true h)
+is-refused n i (Err r) h =
     let both = (and-eq-true_iff (eqb (number r) n) (eqb (place r) i)).0 h in
     (r, refl, eqb-true (number r) n both.0, eqb-true (place r) i both.1)
 
-same_next : (m n : Next) → equal_next m n ≡ true → m ≡ n
+same_next : (m n : Option ℕ) → equal_next m n ≡ true → m ≡ n
 unfolding equal_next
-same_next (Read m) (Read n) h = ap Read (eqb-true m n h)
-same_next (Read m) Never h = absurd (false≢true h)
-same_next Never (Read n) h = absurd (false≢true h)
-same_next Never Never h = refl
+same_next (Some m) (Some n) h = ap Some (eqb-true m n h)
+same_next (Some m) None h = absurd (false≢true h)
+same_next None (Some n) h = absurd (false≢true h)
+same_next None None h = refl
 
-same-mapping : (x y : Mapping) → same_mapping x y ≡ true → x ≡ y
+same-mapping : (x y : Option ℕ) → same_mapping x y ≡ true → x ≡ y
 unfolding same_mapping
-same-mapping Uncached Uncached h = refl
-same-mapping Uncached (Cached d) h = absurd (false≢true h)
-same-mapping (Cached c) Uncached h = absurd (false≢true h)
-same-mapping (Cached c) (Cached d) h = ap Cached (eqb-true c d h)
+same-mapping None None h = refl
+same-mapping None (Some d) h = absurd (false≢true h)
+same-mapping (Some c) None h = absurd (false≢true h)
+same-mapping (Some c) (Some d) h = ap Some (eqb-true c d h)
 
 sound : (c : Case) → test c ≡ true → CaseHolds c
 unfolding test on_line
@@ -245,16 +240,16 @@ sound (first_is t ps) h =
     (is-first t ps two.0 two.1 three.1, gives t ps two.0 two.1 three.1)
 sound (fitting_are t pss) h = exact t (fits t) pss h
 sound (none_fits t n i) h =
-    let both = (and-eq-true_iff (on_all t (λ ps. not (fits t ps))) (refused_by n i (Refused NoPlacement))).0 h in
+    let both = (and-eq-true_iff (on_all t (λ ps. not (fits t ps))) (refused_by n i (Err NoPlacement))).0 h in
     let none : NoPlacementFits t = λ ps w f. false≢true (sym (not-true (fits t ps) (on-all t (λ ps. not (fits t ps)) both.0 ps w)) ∙ f) in
-    (none, λ v p planned. rw (planned.exactly none) (is-refused n i (Refused NoPlacement) both.1))
+    (none, λ v p planned. rw (planned.exactly none) (is-refused n i (Err NoPlacement) both.1))
 sound (priced t ps l p) h =
     let three = (and-eq-true_iff (accepted (pricing t ps) && eqb (lines t ps) l) (eqb (cost t ps) p)).0 h in
     let two = (and-eq-true_iff (accepted (pricing t ps)) (eqb (lines t ps) l)).0 three.0 in
     (is-accepted (pricing t ps) two.0, eqb-true (lines t ps) l two.1, eqb-true (cost t ps) p three.1)
 sound (refused t ps n i) h = is-refused n i (pricing t ps) h
-sound (line_is t m c) h = lies-on t m c (same-mapping (line_of t m) (Cached c) h)
-sound (on_no_line t m) h = lies-nowhere t m (same-mapping (line_of t m) Uncached h)
+sound (line_is t m c) h = lies-on t m c (same-mapping (line_of t m) (Some c) h)
+sound (on_no_line t m) h = lies-nowhere t m (same-mapping (line_of t m) None h)
 sound (replayed t ps a b) h =
     let both = (and-eq-true_iff (eqb (misses_alone t) a) (eqb (misses_with t ps) b)).0 h in
     (eqb-true (misses_alone t) a both.0, eqb-true (misses_with t ps) b both.1)

@@ -1,5 +1,6 @@
 -- Charges of a list: each line of H has one first preempter, so the charges for a line add up to 1, those for a region to its lines, and those
 -- for a list to the list's. Assumes nothing.
+use Rattle.std.specs.Prelude.{None, Option, Some}
 use Prim.Native.Nat.{ℕ, zero, suc, ◌+◌, ◌≤◌, ◌<◌}
 use mathlib.Core.Path.{◌≡◌, refl, sym, ap, ap₂, ◌∙◌, fun_ext}
 use mathlib.Core.Bool.{Bool, true, false, not, cond, ◌&&◌, ◌||◌, and-eq-true_iff, and-false, false≢true}
@@ -18,22 +19,20 @@ use Rattle.model.specs.Lists.{Region, regions, total, lowest_from}
 use Rattle.model.specs.Regions.{loaded, region_lines}
 use Rattle.model.specs.Charges.{touches, first_touching, is_at, charged_to, region_charge, charge, charges, sum}
 use Rattle.model.specs.Laws.{ChargesAddUp, NoChargeFrom}
-use Rattle.model.specs.declared.Place.{Place}
-use Rattle.model.specs.declared.Place.TheVariants.{Nowhere, At}
 use Rattle.model.proofs.Digits.{count_none}
 use Rattle.model.proofs.Sets.{table-length, table_at}
 use Rattle.model.proofs.LineStates.{any_append}
 
 -- the first preempter that touches a line, if the line is of H
 
-pub record Touched (m : ℕ) (p : Place) : Type 0 where
+pub record Touched (m : ℕ) (p : Option ℕ) : Type 0 where
   pub index : ℕ
-  pub is-at : p ≡ At index
+  pub is-at : p ≡ Some index
   pub below : index < m
 
 -- a line is of H where it has a first preempter, below m, and it has none where it is not
-abbrev pub FirstOf : ℕ → Bool → Place → Type 0
-FirstOf m h p = ((h ≡ false) × (p ≡ Nowhere)) ⊎ ((h ≡ true) × Touched m p)
+abbrev pub FirstOf : ℕ → Bool → Option ℕ → Type 0
+FirstOf m h p = ((h ≡ false) × (p ≡ None)) ⊎ ((h ≡ true) × Touched m p)
 
 -- of the preempters from index a on, f tells which do not touch the line
 first-from : (on : ℕ → Bool) (f : ℕ → Bool) (a : ℕ) (ps : List Preempter) → ((i : ℕ) → f (a + i) ≡ not (any_read on (get_or ps i no_preempter).reads))
@@ -45,7 +44,7 @@ first-from on f a (p ∷ ps) is =
     (go (any_read on p.reads) (rw add-zero at (is 0)) (first-from on f (suc a) ps (λ i. rw (suc-add, ← add-suc) (is (suc i)))))
   where
     go : (b : Bool) → f a ≡ not b → FirstOf (suc a + length ps) (any_read on (preempter_reads ps)) (lowest_from f (suc a) (length ps))
-        → FirstOf (a + suc (length ps)) (b || any_read on (preempter_reads ps)) (cond (f a) (lowest_from f (suc a) (length ps)) (At a))
+        → FirstOf (a + suc (length ps)) (b || any_read on (preempter_reads ps)) (cond (f a) (lowest_from f (suc a) (length ps)) (Some a))
     go true e later = rw e (inr (refl, record { index = a; is-at = refl; below = omega arith }))
     go false e (inl none) = rw e (inl none)
     go false e (inr some) = rw e (inr (some.0, record { index = some.1.index; is-at = some.1.is-at; below = omega (arith, some.1.below) }))
@@ -75,7 +74,7 @@ sum_one (suc n) (suc k) h =
     rw (eqb-zero-suc k, same) (zero-add _ ∙ sum_one n k (omega arith))
 
 -- the lines of a set, each counted where its place is
-sum-places : (m n : ℕ) (s : Lines) (p : ℕ → Place) → ((c : ℕ) → s c ≡ true → Touched m (p c))
+sum-places : (m n : ℕ) (s : Lines) (p : ℕ → Option ℕ) → ((c : ℕ) → s c ≡ true → Touched m (p c))
     → sum (table m (λ i. count_below n (λ c. s c && is_at i (p c)))) ≡ count_below n s
 unfolding count_below
 sum-places m zero s p h = sum-none m (λ i. 0) (λ i. refl)

@@ -3,6 +3,7 @@
 -- is one step of it. For a line that holds nothing the block may be any number. A read names one
 -- line and whether it lies on it: a read that bypasses the cache changes nothing there.
 -- Assumes nothing.
+use Rattle.std.specs.Prelude.{None, Some}
 use Prim.Native.Nat.{ℕ, suc, ◌+◌, ◌≤◌, ◌<◌}
 use mathlib.Core.Path.{◌≡◌, refl, sym, ap, ◌∙◌}
 use mathlib.Core.Bool.{Bool, true, false, cond, ◌&&◌, ◌||◌, and-true, and-false, or-false, or-true}
@@ -18,7 +19,6 @@ use Rattle.model.specs.Task.{Task, block_count}
 use Rattle.model.specs.Lines.{line_of, on_line, last_read, any_read, block_at}
 use Rattle.model.specs.declared.Line.{Line}
 use Rattle.model.specs.declared.Line.TheVariants.{Empty, Held}
-use Rattle.model.specs.declared.Mapping.TheVariants.{Uncached, Cached}
 use Rattle.model.proofs.LineStates.{last-append, last-take, last-unread, any_append, lies-on, lies-nowhere}
 use Rattle.model.proofs.ReadOrder.{all_reads, edge, edge-rises, edge-end, edge-suc, read_at}
 
@@ -47,10 +47,10 @@ pub record History (t : Task) (p : ℕ) (held : ℕ → Line) (since : ℕ → �
 abbrev pub LiesOn : Task → ℕ → ℕ → Bool → Type 0
 LiesOn t m line on = (d : ℕ) → on_line t d m ≡ (eqb d line && on)
 
-pub lies-cached : (t : Task) (m line : ℕ) → line_of t m ≡ Cached line → LiesOn t m line true
+pub lies-cached : (t : Task) (m line : ℕ) → line_of t m ≡ Some line → LiesOn t m line true
 lies-cached t m line e d = lies-on t m line e d ∙ sym (and-true (eqb d line))
 
-pub lies-uncached : (t : Task) (m : ℕ) → line_of t m ≡ Uncached → LiesOn t m 0 false
+pub lies-uncached : (t : Task) (m : ℕ) → line_of t m ≡ None → LiesOn t m 0 false
 lies-uncached t m e d = lies-nowhere t m e d ∙ sym (and-false (eqb d 0))
 
 -- before the first read

@@ -1,5 +1,6 @@
 -- Laws of a line's state and its next read over a list of reads that grows at its end.
 -- Assumes nothing.
+use Rattle.std.specs.Prelude.{None, Some}
 use Prim.Native.Nat.{ℕ, suc, ◌+◌, ◌%◌, ◌≤◌, ◌<◌}
 use native.Mathlib.Nat.{mod-lt}
 use native.Mathlib.Numerals.{add-one}
@@ -17,7 +18,6 @@ use Rattle.model.specs.Replay.{miss, fetch}
 use Rattle.model.specs.Laws.{EmptyNotUseful, UsefulStart, UsefulEnd, on_remainder, NoScratch}
 use Rattle.model.specs.declared.Line.{Line}
 use Rattle.model.specs.declared.Line.TheVariants.{Empty, Held}
-use Rattle.model.specs.declared.Mapping.TheVariants.{Uncached, Cached}
 
 neither : (a b : Bool) → (a || b) ≡ false → (a ≡ false) × (b ≡ false)
 neither true b h = absurd (true≢false h)
@@ -75,11 +75,11 @@ module _ (on : ℕ → Bool) where
 
 -- a memory block lies on the line that its mapping names and on no other, or on none
 module _ (t : Task) (m : ℕ) where
-  pub lies-on : (line : ℕ) → line_of t m ≡ Cached line → (c : ℕ) → on_line t c m ≡ eqb c line
+  pub lies-on : (line : ℕ) → line_of t m ≡ Some line → (c : ℕ) → on_line t c m ≡ eqb c line
   unfolding on_line
   lies-on line e c = ap (is_line c) e
 
-  pub lies-nowhere : line_of t m ≡ Uncached → (c : ℕ) → on_line t c m ≡ false
+  pub lies-nowhere : line_of t m ≡ None → (c : ℕ) → on_line t c m ≡ false
   unfolding on_line
   lies-nowhere e c = ap (is_line c) e
 
@@ -92,7 +92,7 @@ module _ (t : Task) (e : t.header.scratch.count ≡ 0) where
       outside true h = le-ltb m (t.header.scratch.first + 0) (omega (arith, leb-true t.header.scratch.first m h))
       outside false h = refl
 
-  remainder-line : (m : ℕ) → line_of t m ≡ Cached (m % line_count t)
+  remainder-line : (m : ℕ) → line_of t m ≡ Some (m % line_count t)
   unfolding line_of
   remainder-line m = rw (none-bypasses m) refl
 
@@ -143,7 +143,7 @@ module _ (t : Task) (least : 1 ≤ line_count t) (c : ℕ) (beyond : line_count 
   unfolding on_line line_of
   off-beyond m = go (bypasses t m)
     where
-      go : (b : Bool) → is_line c (cond b Uncached (Cached (m % line_count t))) ≡ false
+      go : (b : Bool) → is_line c (cond b None (Some (m % line_count t))) ≡ false
       go true = refl
       go false = ne_eqb c (m % line_count t) (λ e. omega (arith, mod-lt m least))
 

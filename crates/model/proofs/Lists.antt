@@ -1,5 +1,6 @@
 -- Laws of lists of points: the test that two are the same, and the enumeration, which has every well-formed list and no other.
 -- Assumes nothing.
+use Rattle.std.specs.Prelude.{None, Some}
 use Prim.Native.Nat.{ℕ, zero, suc, ◌+◌, ◌-◌, ◌<◌}
 use mathlib.Core.Path.{◌≡◌, refl, sym, ap, ap₂, ◌∙◌}
 use mathlib.Core.Bool.{Bool, true, false, cond, ◌&&◌, ◌||◌, and_assoc, or_assoc, or-false, and-false, false≢true, and-eq-true_iff}
@@ -12,7 +13,6 @@ use lib.ListN.{length, get_or}
 use borrow.Author.Tests.{eqb-true, eqb-false, eq-eqb, ne_eqb, ltb-true, ltb-false, lt-ltb, le-ltb}
 use Rattle.model.specs.Lists.{Region, steps, every, right_point, same_list, among, rising_lists, lowest}
 use Rattle.model.specs.Laws.{Enumerated}
-use Rattle.model.specs.declared.Place.TheVariants.{Nowhere, At}
 
 and-or : (a b c : Bool) → (a && b || a && c) ≡ (a && (b || c))
 and-or true b c = refl
@@ -95,19 +95,19 @@ pub enumerated : Enumerated
 enumerated n h ps = rising n (n - 1) 0 (omega arith) ps
 
 -- where a test holds of each, none is the lowest at which it does not
-pub lowest-none : (f : ℕ → ℕ → Bool) (i : ℕ) (rs : List Region) → every f rs ≡ true → lowest f i rs ≡ Nowhere
+pub lowest-none : (f : ℕ → ℕ → Bool) (i : ℕ) (rs : List Region) → every f rs ≡ true → lowest f i rs ≡ None
 unfolding every lowest
 lowest-none f i [] h = refl
 lowest-none f i (r ∷ rs) h =
     let both = (and-eq-true_iff (f r.from r.to) (every f rs)).0 h in
     rw both.0 (lowest-none f (suc i) rs both.1)
 
-pub none-lowest : (f : ℕ → ℕ → Bool) (i : ℕ) (rs : List Region) → lowest f i rs ≡ Nowhere → every f rs ≡ true
+pub none-lowest : (f : ℕ → ℕ → Bool) (i : ℕ) (rs : List Region) → lowest f i rs ≡ None → every f rs ≡ true
 unfolding every lowest
 none-lowest f i [] e = refl
 none-lowest f i (r ∷ rs) e = go (f r.from r.to) e (none-lowest f (suc i) rs)
   where
-    go : (b : Bool) → cond b (lowest f (suc i) rs) (At i) ≡ Nowhere → (lowest f (suc i) rs ≡ Nowhere → every f rs ≡ true)
+    go : (b : Bool) → cond b (lowest f (suc i) rs) (Some i) ≡ None → (lowest f (suc i) rs ≡ None → every f rs ≡ true)
         → (b && every f rs) ≡ true
     go true q ih = ih q
     go false q ih = let z : ◌≡◌ {A = ℕ} 0 1 = cc in absurd (omega arith)

@@ -1,5 +1,7 @@
 -- The order of lists: irreflexive, transitive, total. So the first of the lists of least cost is one list, and planning's answer one answer.
 -- Assumes nothing.
+use Rattle.std.specs.Prelude.{Err}
+use Rattle.model.specs.Answers.{accept}
 use Prim.Native.Nat.{ℕ, ◌<◌}
 use mathlib.Core.Path.{◌≡◌, refl, sym, ap, ap₂, ◌∙◌}
 use mathlib.Core.Bool.{Bool, true, false, ◌&&◌, ◌||◌, or-true, false≢true, and-eq-true_iff}
@@ -16,7 +18,6 @@ use Rattle.model.specs.Regions.{region_fits, region_cost}
 use Rattle.model.specs.Planning.{chosen, plan_for}
 use Rattle.model.specs.Laws.{BeforeIrreflexive, BeforeTransitive, BeforeTotal, OneFirst, OnePlan}
 use Rattle.model.specs.declared.Refusal.TheVariants.{NoPlacement}
-use Rattle.model.specs.declared.Verdict.TheVariants.{Accepted, Refused}
 
 pub three_ways : (p q : ℕ) → (p < q) ⊎ ((p ≡ q) ⊎ (q < p))
 three_ways p q = by_cases (dec_lt p q) (λ l. inl l) (λ l. inr (by_cases (dec_lt q p) (λ m. inr m) (λ m. inl (omega arith))))
@@ -89,7 +90,7 @@ one-first n fit cost ps qs a b =
 pub one-plan : OnePlan
 one-plan t v w p q a b = go a.answers b.answers
   where
-    go : (v ≡ Accepted) ⊎ (v ≡ Refused NoPlacement) → (w ≡ Accepted) ⊎ (w ≡ Refused NoPlacement) → (v ≡ w) × (p ≡ q)
+    go : (v ≡ accept) ⊎ (v ≡ Err NoPlacement) → (w ≡ accept) ⊎ (w ≡ Err NoPlacement) → (v ≡ w) × (p ≡ q)
     go (inl e) (inl f) =
         let same = one-first (block_count t) (region_fits t) (region_cost t) (chosen p) (chosen q) (a.best e) (b.best f) in
         (e ∙ sym f, a.follows e ∙ ap (plan_for t) same ∙ sym (b.follows f))

@@ -1,5 +1,6 @@
 -- Laws of regions and what lists of them cost.
 -- Assumes nothing.
+use Rattle.std.specs.Prelude.{None, Option, Some}
 use Prim.Native.Nat.{ℕ, zero, suc, ◌+◌, ◌-◌, ◌*◌, ◌≤◌, ◌<◌, min}
 use mathlib.Core.Path.{◌≡◌, refl, sym, ◌∙◌}
 use mathlib.Core.Bool.{Bool, true, false, cond, not, ◌&&◌, ◌||◌, and-eq-true_iff, and-true, and-false, or-true, false≢true}
@@ -16,12 +17,9 @@ use Rattle.model.specs.Lists.{steps, regions, every, total, right_point, well_fo
 use Rattle.model.specs.Lines.{useful, evicted, block_at}
 use Rattle.model.specs.Regions.{union_after, time_after, loaded, region_lines, new_lines, switch_ticks, region_cost, region_length, armed_after, region_fits}
 use Rattle.model.specs.Regions.{lines, fits, region_above}
-use Rattle.model.specs.Answers.{refused_at, pricing}
+use Rattle.model.specs.Answers.{accept, refused_at, pricing}
 use Rattle.model.specs.Laws.{NoneArmed, OneArmed, AllArmed, CostOfLines, NoSwitch}
-use Rattle.model.specs.declared.Place.{Place}
-use Rattle.model.specs.declared.Place.TheVariants.{Nowhere, At}
 use Rattle.model.specs.declared.Refusal.TheVariants.{Argument, AboveLimit}
-use Rattle.model.specs.declared.Verdict.TheVariants.{Accepted}
 use Rattle.model.proofs.Digits.{count-le, count-within, count_none, count-sum}
 use Rattle.model.proofs.Lists.{lowest-none, none-lowest}
 
@@ -76,17 +74,17 @@ pub lines-most : (t : Task) (ps : List ℕ) → lines t ps ≤ (length ps + 1) *
 lines-most t ps = lines_from t (block_count t) 0 ps
 
 -- pricing accepts a well-formed list that fits
-pub fits-accepted : (t : Task) (ps : List ℕ) → well_formed (block_count t) ps ≡ true → fits t ps ≡ true → pricing t ps ≡ Accepted
+pub fits-accepted : (t : Task) (ps : List ℕ) → well_formed (block_count t) ps ≡ true → fits t ps ≡ true → pricing t ps ≡ accept
 fits-accepted t ps w f =
     rw (lowest-none (right_point (block_count t)) 0 (steps 0 ps) w, lowest-none (region_fits t) 0 (regions (block_count t) 0 ps) f) refl
 
 -- and no list that is not well formed
-pub accepted-well-formed : (t : Task) (ps : List ℕ) → pricing t ps ≡ Accepted → well_formed (block_count t) ps ≡ true
+pub accepted-well-formed : (t : Task) (ps : List ℕ) → pricing t ps ≡ accept → well_formed (block_count t) ps ≡ true
 accepted-well-formed t ps e = none-lowest (right_point (block_count t)) 0 (steps 0 ps) (go (wrong_point (block_count t) ps) e)
   where
-    go : (p : Place) → refused_at p Argument (refused_at (region_above t ps) AboveLimit Accepted) ≡ Accepted → p ≡ Nowhere
-    go Nowhere q = refl
-    go (At i) q = let z : ◌≡◌ {A = ℕ} 0 1 = cc in absurd (omega arith)
+    go : (p : Option ℕ) → refused_at p Argument (refused_at (region_above t ps) AboveLimit accept) ≡ accept → p ≡ None
+    go None q = refl
+    go (Some i) q = let z : ◌≡◌ {A = ℕ} 0 1 = cc in absurd (omega arith)
 
 -- a region grows with its end: its times, its loaded lines, and so its length
 

@@ -2,6 +2,7 @@
 -- At a point the cache with points is the other one with H emptied. A read on an emptied line misses; alone it misses too, unless the line holds
 -- its number. So a region has one miss more for each line of H that its first read finds held alone, and these are its loaded lines. At the next
 -- point H is emptied again, whatever was read since. Assumes nothing.
+use Rattle.std.specs.Prelude.{None, Some}
 use Prim.Native.Nat.{ℕ, suc, ◌+◌, ◌-◌, ◌%◌, ◌≤◌, ◌<◌, zero-le}
 use mathlib.Core.Path.{◌≡◌, refl, sym, ap, ◌∙◌, fun_ext}
 use mathlib.Core.Bool.{Bool, true, false, not, cond, ◌&&◌, and-false, and-eq-true_iff}
@@ -21,7 +22,6 @@ use Rattle.model.specs.Replay.{Cache, empty_cache, miss_at, miss, fetch, misses,
 use Rattle.model.specs.Laws.{AddedMisses}
 use Rattle.model.specs.declared.Line.{Line}
 use Rattle.model.specs.declared.Line.TheVariants.{Empty, Held}
-use Rattle.model.specs.declared.Mapping.TheVariants.{Uncached, Cached}
 use Rattle.model.proofs.Digits.{count-agree, count_none, count-one, count-sum}
 use Rattle.model.proofs.LineStates.{never-empty}
 use Rattle.model.proofs.Loads.{between, loaded-is}
@@ -131,8 +131,8 @@ module _ (t : Task) where
     unfolding miss on_line line_of
     miss-lines s m = go (bypasses t m)
       where
-        go : (b : Bool) → bit (miss_at s m (cond b Uncached (Cached (m % line_count t))))
-            ≡ count_below 512 (λ c. is_line c (cond b Uncached (Cached (m % line_count t))) && not (same_block (s c) (Held m)))
+        go : (b : Bool) → bit (miss_at s m (cond b None (Some (m % line_count t))))
+            ≡ count_below 512 (λ c. is_line c (cond b None (Some (m % line_count t))) && not (same_block (s c) (Held m)))
         go true = sym (count_none 512 (λ c. false) (λ c l. refl))
         go false = sym (count-one 512 (m % line_count t) (λ c. not (same_block (s c) (Held m))) (omega (arith, mod-lt m least)))
 
@@ -215,12 +215,12 @@ module _ (t : Task) (i j m : ℕ) (hi : i < block_count t) (hj : j < length (blo
       ap (λ (n : ℕ). misses t empty_cache (reads_before t (edge t i + j)) + n) (add-zero _)
 
   -- on no line it is no miss
-  pub misses-skip : line_of t m ≡ Uncached → misses t empty_cache (reads_before t (suc (edge t i + j))) ≡ misses t empty_cache (reads_before t (edge t i + j))
+  pub misses-skip : line_of t m ≡ None → misses t empty_cache (reads_before t (suc (edge t i + j))) ≡ misses t empty_cache (reads_before t (edge t i + j))
   unfolding miss
   misses-skip at = misses-one ∙ rw at (add-zero _)
 
   -- on a line it misses where the line does not hold it
-  pub misses_more : {held : ℕ → Line} (line : ℕ) → line < 512 → line_of t m ≡ Cached line → Holds t (edge t i + j) held
+  pub misses_more : {held : ℕ → Line} (line : ℕ) → line < 512 → line_of t m ≡ Some line → Holds t (edge t i + j) held
       → misses t empty_cache (reads_before t (suc (edge t i + j)))
       ≡ misses t empty_cache (reads_before t (edge t i + j)) + bit (not (same_block (held line) (Held m)))
   unfolding miss

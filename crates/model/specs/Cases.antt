@@ -1,6 +1,6 @@
 -- Document 01's cases marked P as document 02 has changed them, two more of its rules on small tasks, document 02's first five items and
 -- its items 9, 10 and 14, and document 004's appendix A. A case is a claim on a task; a claim about lists is one about every list. Assumes nothing.
-use Rattle.std.specs.Prelude.{ℕ, ◌-◌, ◌<◌, ◌≡◌, true, false, ◌&&◌, List, [], ◌∷◌, ◌++◌, map, eqb, length, replicate}
+use Rattle.std.specs.Prelude.{ℕ, ◌-◌, ◌<◌, ◌≡◌, true, false, ◌&&◌, List, [], ◌∷◌, ◌++◌, map, eqb, length, replicate, Err, None, Option, Some}
 use Rattle.model.specs.Sets.{Lines, listed}
 use Rattle.model.specs.Task.{Block, Preempter, Task, block_count, with_preempters}
 use Rattle.model.specs.Lines.{on_line, next_read, reads_looked_at, as_next, useful, evicted}
@@ -8,19 +8,15 @@ use Rattle.model.specs.Lists.{well_formed, among}
 use Rattle.model.specs.Regions.{loaded, region_length, lines, cost, fits, BestList, FirstBest, NoPlacementFits}
 use Rattle.model.specs.Charges.{charges}
 use Rattle.model.specs.Replay.{misses_alone, misses_with}
-use Rattle.model.specs.Answers.{pricing, number, place}
+use Rattle.model.specs.Answers.{accept, Verdict, pricing, number, place}
 use Rattle.model.specs.Planning.{chosen, Planned}
 use Rattle.model.specs.declared.Header.{Header}
-use Rattle.model.specs.declared.Next.{Next}
-use Rattle.model.specs.declared.Next.TheVariants.{Read, Never}
 use Rattle.model.specs.declared.Plan.{Plan}
 use Rattle.model.specs.declared.Refusal.{Refusal}
-use Rattle.model.specs.declared.Verdict.{Verdict}
-use Rattle.model.specs.declared.Verdict.TheVariants.{Accepted, Refused}
 
 pub data Case : Type 0 where
   useful_are : Task → ℕ → List ℕ → Case  -- U(k) is these lines
-  next_is : Task → ℕ → ℕ → Next → ℕ → Case  -- the next read of line c after block k, and how many reads are looked at
+  next_is : Task → ℕ → ℕ → Option ℕ → ℕ → Case  -- the next read of line c after block k, and how many reads are looked at
   evicted_are : Task → List ℕ → Case  -- H is these lines
   loaded_are : Task → ℕ → ℕ → List ℕ → Case  -- loaded(a, b) is these lines
   length_is : Task → ℕ → ℕ → ℕ → Case  -- the length of region (a, b)
@@ -41,7 +37,7 @@ Are s ds = (c : ℕ) → c < 512 → s c ≡ listed ds c
 
 -- a refusal by this number at this place
 abbrev pub RefusedBy : ℕ → ℕ → Verdict → Type 0
-RefusedBy n i v = (r : Refusal) × (v ≡ Refused r) × (number r ≡ n) × (place r ≡ i)
+RefusedBy n i v = (r : Refusal) × (v ≡ Err r) × (number r ≡ n) × (place r ≡ i)
 
 abbrev pub CaseHolds : Case → Type 0
 CaseHolds (useful_are t k ds) = Are (useful t k) ds
@@ -51,10 +47,10 @@ CaseHolds (loaded_are t a b ds) = Are (loaded t a b) ds
 CaseHolds (length_is t a b l) = region_length t a b ≡ l
 CaseHolds (best_are t p pss) =
     ((ps : List ℕ) → among ps pss ≡ true → BestList t ps × (cost t ps ≡ p)) × ((ps : List ℕ) → BestList t ps → among ps pss ≡ true)
-CaseHolds (first_is t ps) = FirstBest t ps × ((v : Verdict) (p : Plan) → Planned t v p → (v ≡ Accepted) × (chosen p ≡ ps))
+CaseHolds (first_is t ps) = FirstBest t ps × ((v : Verdict) (p : Plan) → Planned t v p → (v ≡ accept) × (chosen p ≡ ps))
 CaseHolds (fitting_are t pss) = (ps : List ℕ) → (well_formed (block_count t) ps && fits t ps) ≡ among ps pss
 CaseHolds (none_fits t n i) = NoPlacementFits t × ((v : Verdict) (p : Plan) → Planned t v p → RefusedBy n i v)
-CaseHolds (priced t ps l p) = (pricing t ps ≡ Accepted) × (lines t ps ≡ l) × (cost t ps ≡ p)
+CaseHolds (priced t ps l p) = (pricing t ps ≡ accept) × (lines t ps ≡ l) × (cost t ps ≡ p)
 CaseHolds (refused t ps n i) = RefusedBy n i (pricing t ps)
 CaseHolds (line_is t m c) = (d : ℕ) → on_line t d m ≡ eqb d c
 CaseHolds (on_no_line t m) = (d : ℕ) → on_line t d m ≡ false
@@ -145,8 +141,8 @@ cases =
     useful_are (file_seven 4 60) 1 (0 ∷ []) ∷ useful_are (file_seven 4 60) 2 (0 ∷ []) ∷ useful_are (file_seven 4 60) 3 (0 ∷ []) ∷
     useful_are (file_seven 4 60) 4 [] ∷
     -- document 02, item 2: the next read of lines 0 and 1 after block 1, of line 2 after block 2, of line 3, and of line 4, which the cache has not
-    next_is (file_seven 4 60) 0 1 (Read 0) 2 ∷ next_is (file_seven 4 60) 1 1 (Read 5) 3 ∷ next_is (file_seven 4 60) 2 2 Never 3 ∷
-    next_is (file_seven 4 60) 3 0 Never 6 ∷ next_is (file_seven 4 60) 4 0 Never 6 ∷
+    next_is (file_seven 4 60) 0 1 (Some 0) 2 ∷ next_is (file_seven 4 60) 1 1 (Some 5) 3 ∷ next_is (file_seven 4 60) 2 2 None 3 ∷
+    next_is (file_seven 4 60) 3 0 None 6 ∷ next_is (file_seven 4 60) 4 0 None 6 ∷
     -- loaded(1, 3) and, by document 02, item 3, loaded(3, 4) are {0}; loaded(1, 2) is empty
     loaded_are (file_seven 4 60) 1 3 (0 ∷ []) ∷ loaded_are (file_seven 4 60) 1 2 [] ∷ loaded_are (file_seven 4 60) 3 4 (0 ∷ []) ∷
     -- Q 60: least cost 10; 1, 2 and 2 and 3 reach it, 1, 2 is the first of them, with lines 1
@@ -182,7 +178,7 @@ cases =
     -- 4 and 1. A search looks at 0 and goes on, and a replay counts it neither as a hit nor as a miss. Every list that fits Q 60 costs nothing.
     on_no_line (scratch_seven 4 60 1) 0 ∷ line_is (scratch_seven 4 60 1) 1 1 ∷ line_is (scratch_seven 4 60 1) 4 0 ∷
     useful_are (scratch_seven 4 60 1) 1 [] ∷ useful_are (scratch_seven 4 60 1) 2 [] ∷ useful_are (scratch_seven 4 60 1) 3 [] ∷
-    next_is (scratch_seven 4 60 1) 0 1 Never 4 ∷ next_is (scratch_seven 4 60 1) 1 1 (Read 5) 3 ∷
+    next_is (scratch_seven 4 60 1) 0 1 None 4 ∷ next_is (scratch_seven 4 60 1) 1 1 (Some 5) 3 ∷
     evicted_are (scratch_seven 4 60 1) (0 ∷ 1 ∷ []) ∷ loaded_are (scratch_seven 4 60 1) 1 4 [] ∷ length_is (scratch_seven 4 60 1) 1 4 60 ∷
     first_is (scratch_seven 4 60 1) (1 ∷ []) ∷ priced (scratch_seven 4 60 1) (1 ∷ []) 0 0 ∷
     replayed (scratch_seven 4 60 1) (1 ∷ 2 ∷ 3 ∷ []) 3 3 ∷

@@ -1,25 +1,23 @@
 -- Which preempter a reload is charged to (document 02, item 10). Preempters are counted from 0, in file order. Assumes nothing.
-use Rattle.std.specs.Prelude.{ℕ, ◌+◌, Bool, false, not, ◌&&◌, List, [], ◌∷◌, eqb, get_or, replicate}
+use Rattle.std.specs.Prelude.{ℕ, ◌+◌, Bool, false, not, ◌&&◌, List, [], ◌∷◌, eqb, get_or, replicate, None, Option, Some}
 use Rattle.model.specs.Sets.{Lines, size, table}
 use Rattle.model.specs.Task.{Task, block_count, preempter_count, no_preempter}
 use Rattle.model.specs.Lines.{on_line, any_read}
 use Rattle.model.specs.Lists.{regions, total, lowest_from}
 use Rattle.model.specs.Regions.{loaded}
-use Rattle.model.specs.declared.Place.{Place}
-use Rattle.model.specs.declared.Place.TheVariants.{Nowhere, At}
 
 -- preempter i touches line c: one of its numbers lies there; a number of the scratch range lies nowhere
 unfoldable pub touches : Task → ℕ → Lines
 touches t i c = any_read (on_line t c) (get_or t.preempters i no_preempter).reads
 
 -- the first preempter that touches line c: the lowest index, or none
-unfoldable pub first_touching : Task → ℕ → Place
+unfoldable pub first_touching : Task → ℕ → Option ℕ
 first_touching t c = lowest_from (λ i. not (touches t i c)) 0 (preempter_count t)
 
 -- a place is this index
-abbrev pub is_at : ℕ → Place → Bool
-is_at i Nowhere = false
-is_at i (At k) = eqb i k
+abbrev pub is_at : ℕ → Option ℕ → Bool
+is_at i None = false
+is_at i (Some k) = eqb i k
 
 -- the lines that are charged to preempter i, where they are loaded
 unfoldable pub charged_to : Task → ℕ → Lines

@@ -1,6 +1,6 @@
 -- What documents 01 and 02 say of the definitions and no contract states. Each is proved in proofs/ under its name in small letters.
 -- Assumes nothing.
-use Rattle.std.specs.Prelude.{ℕ, suc, ◌+◌, ◌-◌, ◌*◌, ◌%◌, ◌≤◌, ◌<◌, min, ◌≡◌, Bool, true, false, not, cond, ◌⊎◌, eqb, leb, length, get_or, take, drop}
+use Rattle.std.specs.Prelude.{ℕ, suc, ◌+◌, ◌-◌, ◌*◌, ◌%◌, ◌≤◌, ◌<◌, min, ◌≡◌, Bool, true, false, not, cond, ◌⊎◌, eqb, leb, length, get_or, take, drop, Some}
 use mathlib.Core.List.{List, [], ◌∷◌, Memᴰ}
 use Rattle.std.specs.Int.Count.{ones}
 use Rattle.model.specs.Sets.{Lines, size, words, in_words}
@@ -13,9 +13,8 @@ use Rattle.model.specs.Replay.{Cache, miss, fetch, misses_alone, misses_with}
 use Rattle.model.specs.Planning.{Planned}
 use Rattle.model.specs.Cases.{Case, CaseHolds, cases}
 use Rattle.model.specs.declared.Line.TheVariants.{Empty, Held}
-use Rattle.model.specs.declared.Mapping.TheVariants.{Cached}
 use Rattle.model.specs.declared.Plan.{Plan}
-use Rattle.model.specs.declared.Verdict.{Verdict}
+use Rattle.model.specs.Answers.{Verdict}
 
 -- a set's words tell of every line below 512 whether it is a member
 abbrev pub WordsHold : Type 0
@@ -49,7 +48,7 @@ on_remainder t c m = eqb c (m % line_count t)
 -- whatever sees the line of a number sees its remainder by S: states, next reads, the reads that a search looks at, T, H, and what a read of a
 -- replay misses and loads. U, regions, prices, plans and misses are made of these
 pub record SeesRemainders (t : Task) : Type 0 where
-  pub line : (m : ℕ) → line_of t m ≡ Cached (m % line_count t)
+  pub line : (m : ℕ) → line_of t m ≡ Some (m % line_count t)
   pub state : (k c : ℕ) → state_after t k c ≡ last_read (on_remainder t c) Empty (reads_of (take k t.blocks))
   pub next : (k c : ℕ) → next_read t k c ≡ first_read (on_remainder t c) (reads_of (drop k t.blocks))
   pub looked : (k c : ℕ) → reads_looked_at t k c ≡ looked_at (on_remainder t c) (reads_of (drop k t.blocks))

@@ -1,27 +1,23 @@
 -- The lines of a task (document 01, "Lines"; 003's reaching and live states on a straight line).
 -- Assumes nothing.
-use Rattle.std.specs.Prelude.{ℕ, zero, suc, ◌+◌, ◌%◌, Bool, false, cond, ◌&&◌, ◌||◌, List, [], ◌∷◌, ◌++◌, eqb, leb, ltb, get_or, take, drop}
+use Rattle.std.specs.Prelude.{ℕ, zero, suc, ◌+◌, ◌%◌, Bool, false, cond, ◌&&◌, ◌||◌, List, [], ◌∷◌, ◌++◌, eqb, leb, ltb, get_or, take, drop, None, Option, Some}
 use Rattle.model.specs.Sets.{Lines}
 use Rattle.model.specs.Task.{Block, Preempter, Task, line_count, no_block}
 use Rattle.model.specs.declared.Line.{Line}
 use Rattle.model.specs.declared.Line.TheVariants.{Empty, Held}
-use Rattle.model.specs.declared.Mapping.{Mapping}
-use Rattle.model.specs.declared.Mapping.TheVariants.{Uncached, Cached}
-use Rattle.model.specs.declared.Next.{Next}
-use Rattle.model.specs.declared.Next.TheVariants.{Read, Never}
 
 -- memory block m bypasses the cache: it is in the scratch range (document 02, item 5)
 unfoldable pub bypasses : Task → ℕ → Bool
 bypasses t m = let scratch = t.header.scratch in leb scratch.first m && ltb m (scratch.first + scratch.count)
 
 -- the line of memory block m, or none: the one place where a number becomes a line
-unfoldable pub line_of : Task → ℕ → Mapping
-line_of t m = cond (bypasses t m) Uncached (Cached (m % line_count t))
+unfoldable pub line_of : Task → ℕ → Option ℕ
+line_of t m = cond (bypasses t m) None (Some (m % line_count t))
 
 -- a memory block that lies there lies on line c
-abbrev pub is_line : ℕ → Mapping → Bool
-is_line c Uncached = false
-is_line c (Cached d) = eqb c d
+abbrev pub is_line : ℕ → Option ℕ → Bool
+is_line c None = false
+is_line c (Some d) = eqb c d
 
 -- memory block m lies on line c
 unfoldable pub on_line : Task → ℕ → ℕ → Bool
@@ -81,9 +77,9 @@ unfoldable pub reads_looked_at : Task → ℕ → ℕ → ℕ
 reads_looked_at t k c = looked_at (on_line t c) (reads_of (drop k t.blocks))
 
 -- what the search answers of a next read: its number, or none
-abbrev pub as_next : Line → Next
-as_next Empty = Never
-as_next (Held m) = Read m
+abbrev pub as_next : Line → Option ℕ
+as_next Empty = None
+as_next (Held m) = Some m
 
 -- U(k), the useful lines at edge k: they hold some m, and m is read next
 unfoldable pub useful : Task → ℕ → Lines

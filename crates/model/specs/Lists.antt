@@ -1,9 +1,7 @@
 -- Lists of preemption points and what follows from a region's cost and fit alone (document 01, "Stretches and price"; the order of lists is
 -- document 02's, item 1).
 -- n is the last edge; fit and cost are any functions of a region's two edges. Assumes nothing.
-use Rattle.std.specs.Prelude.{ℕ, zero, suc, ◌+◌, ◌-◌, ◌≤◌, ◌≡◌, Bool, true, false, cond, ◌&&◌, ◌||◌, List, [], ◌∷◌, ◌++◌, map, eqb, ltb}
-use Rattle.model.specs.declared.Place.{Place}
-use Rattle.model.specs.declared.Place.TheVariants.{Nowhere, At}
+use Rattle.std.specs.Prelude.{ℕ, zero, suc, ◌+◌, ◌-◌, ◌≤◌, ◌≡◌, Bool, true, false, cond, ◌&&◌, ◌||◌, List, [], ◌∷◌, ◌++◌, map, eqb, ltb, None, Option, Some}
 
 -- a region (document 01's stretch): the basic blocks after edge from, up to edge to
 pub record Region : Type 0 where
@@ -31,14 +29,14 @@ total f [] = 0
 total f (r ∷ rs) = f r.from r.to + total f rs
 
 -- the lowest index, counted from i, at which f does not hold
-unfoldable pub lowest : (ℕ → ℕ → Bool) → ℕ → List Region → Place
-lowest f i [] = Nowhere
-lowest f i (r ∷ rs) = cond (f r.from r.to) (lowest f (suc i) rs) (At i)
+unfoldable pub lowest : (ℕ → ℕ → Bool) → ℕ → List Region → Option ℕ
+lowest f i [] = None
+lowest f i (r ∷ rs) = cond (f r.from r.to) (lowest f (suc i) rs) (Some i)
 
 -- the lowest k, of the n from a, at which f does not hold
-unfoldable pub lowest_from : (ℕ → Bool) → ℕ → ℕ → Place
-lowest_from f a zero = Nowhere
-lowest_from f a (suc n) = cond (f a) (lowest_from f (suc a) n) (At a)
+unfoldable pub lowest_from : (ℕ → Bool) → ℕ → ℕ → Option ℕ
+lowest_from f a zero = None
+lowest_from f a (suc n) = cond (f a) (lowest_from f (suc a) n) (Some a)
 
 -- a point p after the point a (0 for the first) is above it and below n
 abbrev pub right_point : ℕ → ℕ → ℕ → Bool
@@ -49,7 +47,7 @@ abbrev pub well_formed : ℕ → List ℕ → Bool
 well_formed n ps = every (right_point n) (steps 0 ps)
 
 -- the lowest index of a wrong point
-abbrev pub wrong_point : ℕ → List ℕ → Place
+abbrev pub wrong_point : ℕ → List ℕ → Option ℕ
 wrong_point n ps = lowest (right_point n) 0 (steps 0 ps)
 
 -- a list fits if all its regions do

@@ -1,10 +1,9 @@
 -- Regions of a task (document 01, "Stretches and price"; document 02, items 3, 9 and 14). Assumes nothing.
-use Rattle.std.specs.Prelude.{ℕ, zero, suc, ◌+◌, ◌-◌, ◌*◌, Bool, false, cond, not, ◌&&◌, ◌||◌, List, eqb, leb}
+use Rattle.std.specs.Prelude.{ℕ, zero, suc, ◌+◌, ◌-◌, ◌*◌, Bool, false, cond, not, ◌&&◌, ◌||◌, List, eqb, leb, Option}
 use Rattle.model.specs.Sets.{Lines, size}
 use Rattle.model.specs.Task.{Task, block_count, second_limit}
 use Rattle.model.specs.Lines.{useful, accessed, evicted, block_at}
 use Rattle.model.specs.Lists.{regions, total, lowest, list_fits, list_cost, LeastCost, FirstOfLeast, NoneFits}
-use Rattle.model.specs.declared.Place.{Place}
 
 -- the union of s(a + 1) to s(a + n)
 unfoldable pub union_after : (ℕ → Lines) → ℕ → ℕ → Lines
@@ -64,7 +63,7 @@ abbrev pub fits : Task → List ℕ → Bool
 fits t ps = list_fits (region_fits t) (block_count t) ps
 
 -- the lowest region that does not fit
-abbrev pub region_above : Task → List ℕ → Place
+abbrev pub region_above : Task → List ℕ → Option ℕ
 region_above t ps = lowest (region_fits t) 0 (regions (block_count t) 0 ps)
 
 -- demand 3 for a task: this list is well formed, fits, and costs least among the fitting; several may

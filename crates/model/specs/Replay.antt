@@ -1,13 +1,11 @@
 -- Replay of the reads (document 02, item 4): block after block, each read looked up in a cache that holds nothing at first, and the misses counted.
 -- Assumes nothing.
-use Rattle.std.specs.Prelude.{ℕ, suc, ◌+◌, Bool, false, not, cond, List, [], ◌∷◌}
+use Rattle.std.specs.Prelude.{ℕ, suc, ◌+◌, Bool, false, not, cond, List, [], ◌∷◌, None, Option, Some}
 use Rattle.model.specs.Sets.{Lines, listed, bit}
 use Rattle.model.specs.Task.{Block, Task}
 use Rattle.model.specs.Lines.{line_of, on_line, same_block, evicted}
 use Rattle.model.specs.declared.Line.{Line}
 use Rattle.model.specs.declared.Line.TheVariants.{Empty, Held}
-use Rattle.model.specs.declared.Mapping.{Mapping}
-use Rattle.model.specs.declared.Mapping.TheVariants.{Uncached, Cached}
 
 -- a cache: the state of each line
 abbrev pub Cache : Type 0
@@ -18,9 +16,9 @@ abbrev pub empty_cache : Cache
 empty_cache c = Empty
 
 -- a read misses unless its line holds its number; one that lies on no line neither hits nor misses (document 02, item 5)
-abbrev pub miss_at : Cache → ℕ → Mapping → Bool
-miss_at s m Uncached = false
-miss_at s m (Cached c) = not (same_block (s c) (Held m))
+abbrev pub miss_at : Cache → ℕ → Option ℕ → Bool
+miss_at s m None = false
+miss_at s m (Some c) = not (same_block (s c) (Held m))
 
 unfoldable pub miss : Task → Cache → ℕ → Bool
 miss t s m = miss_at s m (line_of t m)

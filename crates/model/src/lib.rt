@@ -1,29 +1,20 @@
 // The types that the planner's answers and a task's header are made of. What they mean is in specs/.
 #![tactic(auto)]
 
-// One line of the cache: it is empty or holds one memory block.
-#[derive(Clone, Copy)]
+ghost use Rattle.std.specs.Prelude.{◌≡◌};
+ghost use Rattle.model.specs.Answers.{number, place};
+
+use std::fmt;
+
+// One line of the cache: it is empty or holds one memory block. Document 01 names this enum.
+#[derive(Clone, Copy, PartialEq, Eq)]
 pub enum Line {
     Empty,
     Held(u32),
 }
 
-// Where a memory block lies: on a line of the cache, or on none.
-#[derive(Clone, Copy)]
-pub enum Mapping {
-    Uncached,
-    Cached(usize),
-}
-
-// The next read of a line: a memory block's number, or none.
-#[derive(Clone, Copy)]
-pub enum Next {
-    Read(u32),
-    Never,
-}
-
 // Why a call refuses, with the place that the refusal names.
-#[derive(Clone, Copy)]
+#[derive(Clone, Copy, PartialEq, Eq)]
 pub enum Refusal {
     Length,
     Checksum(usize),
@@ -44,25 +35,51 @@ pub enum Refusal {
     WrongTaskSet,
 }
 
-// The lowest place at which something does not hold.
-#[derive(Clone, Copy)]
-pub enum Place {
-    Nowhere,
-    At(usize),
+impl Refusal {
+    // Its number: 1 to 9 of document 01, 10 to 16 of document 02. 17, for the text of a task, is ours and in no document.
+    pub fn number(self) -> u32
+        ensures { result ≡ number self }
+    {
+        match self {
+            Refusal::Length => 1,
+            Refusal::Checksum(_) => 2,
+            Refusal::WrongHeader => 3,
+            Refusal::BlockCount => 4,
+            Refusal::WrongBlock(_) => 5,
+            Refusal::NoPlacement => 6,
+            Refusal::Argument(_) => 7,
+            Refusal::AboveLimit(_) => 8,
+            Refusal::Output => 9,
+            Refusal::OutOfRange => 10,
+            Refusal::Mismatch => 11,
+            Refusal::TooManyBlocks => 12,
+            Refusal::WrongTraceLine(_) => 13,
+            Refusal::WrongTrace => 14,
+            Refusal::LongTask => 15,
+            Refusal::WrongTaskSet => 16,
+            Refusal::WrongText(_) => 17,
+        }
+    }
+
+    // The place that it names, 0 where it names none.
+    pub fn place(self) -> usize
+        ensures { result ≡ place self }
+    {
+        match self {
+            Refusal::Checksum(block) | Refusal::WrongBlock(block) => block,
+            Refusal::Argument(index) => index,
+            Refusal::AboveLimit(region) => region,
+            Refusal::WrongTraceLine(line) | Refusal::WrongText(line) => line,
+            _ => 0,
+        }
+    }
 }
 
-// Whether a call accepts what it is handed, or why not; an answer with a value has its verdict beside it.
-#[derive(Clone, Copy)]
-pub enum Verdict {
-    Accepted,
-    Refused(Refusal),
-}
-
-// Which of a call's two inputs a refusal is of.
-#[derive(Clone, Copy)]
-pub enum Input {
-    First,
-    Second,
+// What a program prints of a refusal.
+impl fmt::Display for Refusal {
+    fn fmt<W: fmt::Write>(&self, f: &mut fmt::Formatter<W>) -> fmt::Result {
+        write!(f, "refused {} at {}", self.number(), self.place())
+    }
 }
 
 // A plan, each field as wide as in a plan block; the points beyond the count are zero.
@@ -77,7 +94,7 @@ pub struct Plan {
 }
 
 // The memory blocks that bypass the cache: so many from the first on.
-#[derive(Clone, Copy)]
+#[derive(Clone, Copy, PartialEq, Eq)]
 pub struct Scratch {
     pub first: u32,
     pub count: u32,

@@ -2,17 +2,16 @@
 // refusal.
 #![tactic(auto)]
 
-use model::{Next, Verdict};
 use std::io;
 
-fn print_next(rt: &impl Print, next: Next) -> io::Result<()> {
+fn print_next(rt: &impl Print, next: Option<u32>) -> io::Result<()> {
     match next {
-        Next::Read(number) => desk::print_field(rt, b"read ", number as u64),
-        Next::Never => desk::print(rt, b"none"),
+        Some(number) => desk::print_field(rt, b"read ", number as u64),
+        None => desk::print(rt, b"none"),
     }
 }
 
-fn print_found(rt: &impl Print, next: Next, looked: usize) -> io::Result<()> {
+fn print_found(rt: &impl Print, next: Option<u32>, looked: usize) -> io::Result<()> {
     print_next(rt, next)?;
     desk::print_field(rt, b" looked ", looked as u64)?;
     desk::end_line(rt)
@@ -23,8 +22,8 @@ fn print_answer(rt: &impl Print, file: &[u8], line: usize, k: usize) -> io::Resu
     let verdict = found.verdict;
     let next = found.next;
     match verdict {
-        Verdict::Accepted => print_found(rt, next, found.looked),
-        Verdict::Refused(refusal) => desk::print_refusal(rt, refusal),
+        Ok(()) => print_found(rt, next, found.looked),
+        Err(refusal) => desk::print_refusal(rt, refusal),
     }
 }
 

@@ -11,7 +11,7 @@ ghost use Rattle.pricing.specs.Prices.{Loads};
 
 mod drawing;
 
-use model::{Header, Place, Plan, Refusal, Verdict};
+use model::{Header, Plan, Refusal};
 use std::io;
 
 // A region of the plan: its edges, its length, and what of it are reloads and the switch.
@@ -36,7 +36,7 @@ fn edge_before(points: &[u16], i: usize, n: usize) -> usize
 
 // Region i of a well-formed list.
 fn region_at(file: &[u8], points: &[u16], lines: &[u32; 64], i: usize) -> Region
-    requires { IsAccepted file.now × (wrong_point (block_count (task_of file.now)) points.now ≡ Place.Nowhere) × Loads (task_of file.now) points.now lines.now × (i ≤ length points.now) }
+    requires { IsAccepted file.now × (wrong_point (block_count (task_of file.now)) points.now ≡ None) × Loads (task_of file.now) points.now lines.now × (i ≤ length points.now) }
     ensures { (result.from < result.to) × (result.to ≤ block_count (task_of file.now)) }
 {
     let n = taskfile::block_count(file);
@@ -53,7 +53,7 @@ fn region_at(file: &[u8], points: &[u16], lines: &[u32; 64], i: usize) -> Region
 
 // The length of the longest region.
 fn longest(file: &[u8], points: &[u16], lines: &[u32; 64]) -> u64
-    requires { IsAccepted file.now × (wrong_point (block_count (task_of file.now)) points.now ≡ Place.Nowhere) × Loads (task_of file.now) points.now lines.now }
+    requires { IsAccepted file.now × (wrong_point (block_count (task_of file.now)) points.now ≡ None) × Loads (task_of file.now) points.now lines.now }
 {
     let mut most = 0;
     let mut i = 0;
@@ -169,7 +169,7 @@ fn collect_regions(
     lines: &[u32; 64],
     span: u64,
 ) -> io::Result<usize>
-    requires { IsAccepted file.now × (wrong_point (block_count (task_of file.now)) points.now ≡ Place.Nowhere) × Loads (task_of file.now) points.now lines.now }
+    requires { IsAccepted file.now × (wrong_point (block_count (task_of file.now)) points.now ≡ None) × Loads (task_of file.now) points.now lines.now }
 {
     let header = taskfile::header(file);
     let mut held = held;
@@ -225,7 +225,7 @@ fn collect_picture(
     armed: bool,
     span: u64,
 ) -> io::Result<usize>
-    requires { IsAccepted file.now × (wrong_point (block_count (task_of file.now)) points.now ≡ Place.Nowhere) × Loads (task_of file.now) points.now lines.now }
+    requires { IsAccepted file.now × (wrong_point (block_count (task_of file.now)) points.now ≡ None) × Loads (task_of file.now) points.now lines.now }
 {
     let header = taskfile::header(file);
     let rows = plan.count as u64 + 1;
@@ -253,7 +253,7 @@ fn collect_plan(
     plan: Plan,
     points: &[u16],
 ) -> io::Result<usize>
-    requires { IsAccepted file.now × (wrong_point (block_count (task_of file.now)) points.now ≡ Place.Nowhere) }
+    requires { IsAccepted file.now × (wrong_point (block_count (task_of file.now)) points.now ≡ None) }
 {
     let header = taskfile::header(file);
     let armed = armed_between(file, 0, taskfile::block_count(file));
@@ -269,7 +269,7 @@ fn collect_plan(
 }
 
 fn draw_plan(rt: &impl Print, file: &[u8], plan: Plan) -> io::Result<()>
-    requires { IsAccepted file.now × (wrong_point (block_count (task_of file.now)) (chosen plan) ≡ Place.Nowhere) }
+    requires { IsAccepted file.now × (wrong_point (block_count (task_of file.now)) (chosen plan) ≡ None) }
 {
     let points = plan.points;
     let mut page = [0u8; 4096];
@@ -305,8 +305,8 @@ fn draw_answer(rt: &impl Print, file: &[u8]) -> io::Result<()> {
     let found = planner::least_plan(file);
     let verdict = found.verdict;
     match verdict {
-        Verdict::Accepted => draw_plan(rt, file, found.plan),
-        Verdict::Refused(refusal) => draw_refusal(rt, refusal),
+        Ok(()) => draw_plan(rt, file, found.plan),
+        Err(refusal) => draw_refusal(rt, refusal),
     }
 }
 

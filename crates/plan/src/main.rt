@@ -7,11 +7,11 @@ ghost use Rattle.model.specs.Lists.{wrong_point};
 ghost use Rattle.model.specs.Planning.{chosen};
 ghost use Rattle.taskfile.specs.File.{IsAccepted, task_of};
 
-use model::{Place, Plan, Verdict};
+use model::Plan;
 use std::io;
 
 fn print_plan(rt: &impl Print, file: &[u8], plan: Plan) -> io::Result<()>
-    requires { IsAccepted file.now × (wrong_point (block_count (task_of file.now)) (chosen plan) ≡ Place.Nowhere) }
+    requires { IsAccepted file.now × (wrong_point (block_count (task_of file.now)) (chosen plan) ≡ None) }
 {
     let points = plan.points;
     report::print_list(
@@ -29,8 +29,8 @@ fn print_answer(rt: &impl Print, file: &[u8]) -> io::Result<()> {
     let found = planner::plan(file);
     let verdict = found.verdict;
     match verdict {
-        Verdict::Accepted => print_plan(rt, file, found.plan),
-        Verdict::Refused(refusal) => desk::print_refusal(rt, refusal),
+        Ok(()) => print_plan(rt, file, found.plan),
+        Err(refusal) => desk::print_refusal(rt, refusal),
     }
 }
 

@@ -1,5 +1,6 @@
 -- Storing and reading undo one another: an accepted plan reads back whole, and a readable block's plan is stored as the same bytes.
 -- Assumes nothing.
+use Rattle.std.specs.Prelude.{Err}
 use Prim.Native.Nat.{ℕ, ◌+◌, ◌-◌, ◌*◌, ◌^◌, ◌<◌, ◌≤◌}
 use mathlib.Core.Path.{◌≡◌, refl, sym}
 use mathlib.Core.Bool.{Bool, true, false, cond, and-eq-true_iff}
@@ -11,10 +12,9 @@ use lib.Seq.{drop_at, get_or-take, get_or-drop, length-take-le, ext_get_or}
 use mir.Syntax.{w16}
 use mir.Val.{Fits}
 use borrow.Author.Tests.{eqb-true, eq-eqb, le-ltb}
-use Rattle.model.specs.Answers.{accepted, output_row}
+use Rattle.model.specs.Answers.{accept, accepted, output_row}
 use Rattle.model.specs.declared.Plan.{Plan}
 use Rattle.model.specs.declared.Refusal.TheVariants.{Length, Checksum, WrongBlock}
-use Rattle.model.specs.declared.Verdict.TheVariants.{Accepted, Refused}
 use Rattle.model.proofs.Verdicts.{never_both, is-accepted, both-accepted, output-accepts}
 use Rattle.block.specs.Bytes.{le, packed, field, fields, Each}
 use Rattle.block.specs.Blocks.{numbered, checksum_right, body_right}
@@ -29,7 +29,7 @@ use Rattle.planblock.specs.Plans.{plan_numbers, plan_named, plan_bytes, plan_of,
 use Rattle.planblock.specs.Statements.{StoredReads, ReadStores}
 use Rattle.planblock.proofs.Storing.{length-named}
 
-module _ (p : Plan) (f : PlanFits p) (e : plan_verdict p ≡ Accepted) where
+module _ (p : Plan) (f : PlanFits p) (e : plan_verdict p ≡ accept) where
   small : p.count ≤ 63
   small = count-accepted p e
 
@@ -73,18 +73,18 @@ module _ (p : Plan) (f : PlanFits p) (e : plan_verdict p ≡ Accepted) where
   plan-read = rw (numbers-read, points-read)
 
   -- what is stored reads back
-  pub read_back : (read_verdict (plan_bytes p) ≡ Accepted) × (plan_of (plan_bytes p) ≡ p)
+  pub read_back : (read_verdict (plan_bytes p) ≡ accept) × (plan_of (plan_bytes p) ≡ p)
   unfolding read_verdict plan_right plan_bytes
   read_back = (
     rw (eq-eqb _ 512 long, checksum-sealed (numbered 0 (plan_named p)) body-long, plan-read, e, body-sealed 0 (plan_named p) (omega (arith, named-long, small))),
     plan-read,
   )
 
-read-parts : (bs : List ℕ) → read_verdict bs ≡ Accepted → (checksum_right bs ≡ true) × (plan_right bs ≡ true)
+read-parts : (bs : List ℕ) → read_verdict bs ≡ accept → (checksum_right bs ≡ true) × (plan_right bs ≡ true)
 unfolding read_verdict
 read-parts bs e = go (eqb (length bs) 512) (checksum_right bs) (plan_right bs) e
   where
-    go : (a b c : Bool) → cond a (cond b (cond c Accepted (Refused (WrongBlock 0))) (Refused (Checksum 0))) (Refused Length) ≡ Accepted
+    go : (a b c : Bool) → cond a (cond b (cond c accept (Err (WrongBlock 0))) (Err (Checksum 0))) (Err Length) ≡ accept
         → (b ≡ true) × (c ≡ true)
     go true true true q = (refl, refl)
     go true true false q = absurd (never_both (sym q))
@@ -92,7 +92,7 @@ read-parts bs e = go (eqb (length bs) 512) (checksum_right bs) (plan_right bs) e
     go false b c q = absurd (never_both (sym q))
 
 -- a readable block's plan is stored as the same bytes
-pub store-back : (bs : List ℕ) → read_verdict bs ≡ Accepted → (plan_verdict (plan_of bs) ≡ Accepted) × (plan_bytes (plan_of bs) ≡ bs)
+pub store-back : (bs : List ℕ) → read_verdict bs ≡ accept → (plan_verdict (plan_of bs) ≡ accept) × (plan_bytes (plan_of bs) ≡ bs)
 unfolding plan_right plan_bytes
 store-back bs e =
     let parts = read-parts bs e in

@@ -1,5 +1,6 @@
 -- What storing a plan leaves, part by part.
 -- Assumes nothing.
+use Rattle.model.specs.Answers.{accept}
 use Prim.Native.Nat.{ℕ, ◌+◌, ◌*◌, ◌<◌, ◌≤◌}
 use mathlib.Core.Path.{◌≡◌, refl}
 use mathlib.Core.Bool.{and-false}
@@ -9,7 +10,6 @@ use lib.ListN.{length, take, drop, length-append}
 use lib.Seq.{length-take-le}
 use borrow.Author.Tests.{eq-eqb, ne_eqb, le-leb, lt-leb}
 use Rattle.model.specs.declared.Plan.{Plan}
-use Rattle.model.specs.declared.Verdict.TheVariants.{Accepted}
 use Rattle.block.specs.Bytes.{le, les, packed}
 use Rattle.block.specs.Blocks.{numbered}
 use Rattle.block.proofs.Bytes.{length-les}
@@ -67,5 +67,5 @@ unfolding put
 put-many p out h = rw (lt-leb p.count 63 h, and-false)
 
 -- an accepted plan is stored
-pub put-accepted : (p : Plan) (out : List ℕ) → length out ≡ 512 → plan_verdict p ≡ Accepted → put p out ≡ plan_bytes p
+pub put-accepted : (p : Plan) (out : List ℕ) → length out ≡ 512 → plan_verdict p ≡ accept → put p out ≡ plan_bytes p
 put-accepted p out l e = put-fits p out l (count-accepted p e)

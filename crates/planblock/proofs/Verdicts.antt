@@ -1,5 +1,6 @@
 -- Laws of verdicts on blocks: too many points are wrong, and a read's refusals are all at place 0.
 -- Assumes nothing.
+use Rattle.std.specs.Prelude.{Err}
 use Prim.Native.Nat.{ℕ, ◌<◌}
 use mathlib.Core.Path.{◌≡◌, refl}
 use mathlib.Core.Bool.{Bool, true, false, cond, and-false}
@@ -7,9 +8,8 @@ use mathlib.Core.List.{List}
 use lib.Dec.{eqb}
 use lib.ListN.{length}
 use borrow.Author.Tests.{lt-leb}
-use Rattle.model.specs.Answers.{verdict_place}
+use Rattle.model.specs.Answers.{accept, verdict_place}
 use Rattle.model.specs.declared.Refusal.TheVariants.{Length, Checksum, WrongBlock}
-use Rattle.model.specs.declared.Verdict.TheVariants.{Accepted, Refused}
 use Rattle.block.specs.Bytes.{field}
 use Rattle.block.specs.Blocks.{checksum_right}
 use Rattle.planvalue.specs.Values.{plan_in_range, plan_verdict}
@@ -25,7 +25,7 @@ pub read-place : (bs : List ℕ) → verdict_place (read_verdict bs) ≡ 0
 unfolding read_verdict
 read-place bs = go (eqb (length bs) 512) (checksum_right bs) (plan_right bs)
   where
-    go : (a b c : Bool) → verdict_place (cond a (cond b (cond c Accepted (Refused (WrongBlock 0))) (Refused (Checksum 0))) (Refused Length)) ≡ 0
+    go : (a b c : Bool) → verdict_place (cond a (cond b (cond c accept (Err (WrongBlock 0))) (Err (Checksum 0))) (Err Length)) ≡ 0
     go true true true = refl
     go true true false = refl
     go true false c = refl

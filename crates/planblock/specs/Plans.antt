@@ -1,11 +1,9 @@
 -- Plan blocks (document 01, "Blocks of 512 bytes" and "Numbers given to the build"): the bytes of a plan, the plan of some bytes, and what
 -- storing and reading answer. Assumes nothing.
-use Rattle.std.specs.Prelude.{ℕ, ◌-◌, ◌^◌, ◌<◌, ◌≡◌, Bool, cond, ◌&&◌, List, [], ◌∷◌, ◌++◌, eqb, leb, length, get_or, take, replicate}
-use Rattle.model.specs.Answers.{accepted, on_accepted, and_then, output_row}
+use Rattle.std.specs.Prelude.{ℕ, ◌-◌, ◌^◌, ◌<◌, ◌≡◌, Bool, cond, ◌&&◌, List, [], ◌∷◌, ◌++◌, eqb, leb, length, get_or, take, replicate, Err}
+use Rattle.model.specs.Answers.{accept, Verdict, accepted, on_accepted, and_then, output_row}
 use Rattle.model.specs.declared.Plan.{Plan}
 use Rattle.model.specs.declared.Refusal.TheVariants.{Length, Checksum, WrongBlock}
-use Rattle.model.specs.declared.Verdict.{Verdict}
-use Rattle.model.specs.declared.Verdict.TheVariants.{Accepted, Refused}
 use Rattle.block.specs.Bytes.{Sized, packed, les, field, fields}
 use Rattle.block.specs.Blocks.{numbered, sealed, checksum_right, body_right}
 use Rattle.planvalue.specs.Values.{plan_verdict}
@@ -42,8 +40,8 @@ plan_right bs = accepted (plan_verdict (plan_of bs)) && body_right 0 (plan_named
 unfoldable pub read_verdict : List ℕ → Verdict
 read_verdict bs =
     cond (eqb (length bs) 512)
-    (cond (checksum_right bs) (cond (plan_right bs) Accepted (Refused (WrongBlock 0))) (Refused (Checksum 0)))
-    (Refused Length)
+    (cond (checksum_right bs) (cond (plan_right bs) accept (Err (WrongBlock 0))) (Err (Checksum 0)))
+    (Err Length)
 
 -- a buffer after a plan is stored in it without a check of N and the points: it stays what it was
 -- where it is not of 512 bytes or the count is above 63

@@ -9,12 +9,12 @@ ghost use Rattle.block.specs.Blocks.{numbered};
 ghost use Rattle.planvalue.specs.Values.{plan_verdict};
 ghost use Rattle.planblock.specs.Plans.{plan_numbers, plan_named, plan_bytes, plan_of, plan_right, put, read_verdict, store_verdict, stored};
 
-use model::{Plan, Refusal, Verdict};
+use model::{Plan, Refusal};
 
 // What reading answers: the plan is all zeros where the verdict is a refusal.
 #[derive(Clone, Copy)]
 pub struct PlanRead {
-    pub verdict: Verdict,
+    pub verdict: Result<(), Refusal>,
     pub plan: Plan,
 }
 
@@ -89,24 +89,24 @@ pub fn put_plan(plan: Plan, out: &mut [u8])
 }
 
 // Stores a plan where it was accepted.
-fn put_accepted(verdict: Verdict, plan: Plan, out: &mut [u8])
+fn put_accepted(verdict: Result<(), Refusal>, plan: Plan, out: &mut [u8])
     requires out_len { length out.old ≡ 512 }
     requires verdict_value { verdict ≡ plan_verdict plan }
     ensures { out.new ≡ on_accepted verdict (plan_bytes plan) out.old }
 {
     match verdict {
-        Verdict::Accepted => put_block(plan, out),
-        Verdict::Refused(_) => {}
+        Ok(()) => put_block(plan, out),
+        Err(_) => {}
     }
 }
 
 // Stores a plan in a lent buffer: 9 for the buffer's length, then 7 for the plan. On a refusal the buffer stays what it was.
-pub fn store(plan: Plan, out: &mut [u8]) -> Verdict
+pub fn store(plan: Plan, out: &mut [u8]) -> Result<(), Refusal>
     ensures value { result ≡ store_verdict plan out.old }
     ensures out_after { out.new ≡ stored plan out.old }
 {
     let output = answers::check_output(512, out.len());
-    let Verdict::Accepted = output else {
+    let Ok(()) = output else {
         return output;
     };
     let verdict = planvalue::check(plan);
@@ -149,10 +149,10 @@ fn plan_of(bytes: &[u8]) -> Plan
 
 // What is answered where no plan is read.
 fn refused_read(refusal: Refusal) -> PlanRead
-    ensures { (result.verdict ≡ Verdict.Refused refusal) × (result.plan ≡ no_plan) }
+    ensures { (result.verdict ≡ Err refusal) × (result.plan ≡ no_plan) }
 {
     PlanRead {
-        verdict: Verdict::Refused(refusal),
+        verdict: Err(refusal),
         plan: answers::no_plan(),
     }
 }
@@ -166,8 +166,8 @@ fn plan_right(bytes: &[u8], plan: Plan) -> bool
 {
     let verdict = planvalue::check(plan);
     match verdict {
-        Verdict::Accepted => block::body_right(bytes, 0, 4, 0, 20 + 2 * plan.count as usize),
-        Verdict::Refused(_) => false,
+        Ok(()) => block::body_right(bytes, 0, 4, 0, 20 + 2 * plan.count as usize),
+        Err(_) => false,
     }
 }
 
@@ -190,7 +190,7 @@ pub fn read(bytes: &[u8]) -> PlanRead
         return refused_read(Refusal::WrongBlock(0));
     }
     PlanRead {
-        verdict: Verdict::Accepted,
+        verdict: Ok(()),
         plan,
     }
 }

@@ -2,12 +2,13 @@
 #![tactic(auto)]
 
 ghost use Rattle.std.specs.Prelude.{◌≡◌, ◌≤◌, ◌<◌};
+ghost use Rattle.model.specs.Answers.{accept};
 ghost use Rattle.planvalue.specs.Values.{plan_verdict};
 
-use model::{Plan, Verdict};
+use model::Plan;
 use std::io;
 
-fn show(rt: &impl Print, case: &[u8], verdict: Verdict) -> io::Result<()> {
+fn show(rt: &impl Print, case: &[u8], verdict: Result<(), Refusal>) -> io::Result<()> {
     desk::print(rt, case)?;
     desk::print(rt, b": ")?;
     desk::print_verdict(rt, verdict)
@@ -52,7 +53,7 @@ fn right() -> Plan {
     plan(4, 2, 1, 3, 0)
 }
 
-fn store_into(plan: Plan, n: usize) -> Verdict
+fn store_into(plan: Plan, n: usize) -> Result<(), Refusal>
     requires { n ≤ 513 }
 {
     let mut out = [0u8; 513];
@@ -72,7 +73,7 @@ fn store(
     show(rt, case, store_into(plan(blocks, count, a, b, c), 512))
 }
 
-fn read_zeros(n: usize) -> Verdict
+fn read_zeros(n: usize) -> Result<(), Refusal>
     requires { n ≤ 513 }
 {
     let bytes = [0u8; 513];
@@ -81,7 +82,7 @@ fn read_zeros(n: usize) -> Verdict
 }
 
 // Stores a plan, sets one byte, makes the checksum right and reads.
-fn read_with(plan: Plan, at: usize, byte: u8) -> Verdict
+fn read_with(plan: Plan, at: usize, byte: u8) -> Result<(), Refusal>
     requires { at < 512 }
 {
     let mut bytes = [0u8; 512];
@@ -100,7 +101,7 @@ fn read(rt: &impl Print, case: &[u8], at: usize, byte: u8) -> io::Result<()>
 }
 
 // Stores a plan, changes one byte and reads.
-fn read_changed(plan: Plan, at: usize) -> Verdict
+fn read_changed(plan: Plan, at: usize) -> Result<(), Refusal>
     requires { at < 512 }
 {
     let mut bytes = [0u8; 512];
@@ -112,7 +113,7 @@ fn read_changed(plan: Plan, at: usize) -> Verdict
 
 // Stores a plan and reads it back: an accepted plan comes back whole.
 fn round_trip(plan: Plan) -> Plan
-    ensures { plan_verdict plan ≡ Verdict.Accepted → result ≡ plan }
+    ensures { plan_verdict plan ≡ accept → result ≡ plan }
 {
     let mut bytes = [0u8; 512];
     planblock::store(plan, &mut bytes);

@@ -1,20 +1,15 @@
 -- What each public call answers to any bytes and numbers (document 01, "Stretches and price" and "Numbers given to the build"): refusals 1 to
 -- 5 of the file first, then 7, then 6 or 8. Assumes nothing.
-use Rattle.std.specs.Prelude.{ℕ, ◌≡◌, false, cond, ◌&&◌, List, leb, ltb}
+use Rattle.std.specs.Prelude.{ℕ, ◌≡◌, false, cond, ◌&&◌, List, leb, ltb, Err, None, Option}
 use Rattle.model.specs.Sets.{words}
 use Rattle.model.specs.Task.{block_count}
 use Rattle.model.specs.Lines.{next_read, reads_looked_at, as_next, useful}
 use Rattle.model.specs.Regions.{loaded, region_length, lines, cost}
 use Rattle.model.specs.Charges.{charges, no_charges}
-use Rattle.model.specs.Answers.{on_accepted, and_then, whose, place_of, pricing}
+use Rattle.model.specs.Answers.{Input, accept, Verdict, on_accepted, and_then, whose, place_of, pricing}
 use Rattle.model.specs.Planning.{chosen, plan_for, no_plan, Planned}
-use Rattle.model.specs.declared.Input.{Input}
-use Rattle.model.specs.declared.Next.{Next}
-use Rattle.model.specs.declared.Next.TheVariants.{Never}
 use Rattle.model.specs.declared.Refusal.{Refusal}
 use Rattle.model.specs.declared.Refusal.TheVariants.{Argument}
-use Rattle.model.specs.declared.Verdict.{Verdict}
-use Rattle.model.specs.declared.Verdict.TheVariants.{Accepted, Refused}
 use Rattle.model.specs.declared.Plan.{Plan}
 use Rattle.taskfile.specs.File.{IsAccepted, verdict, task_of}
 use Rattle.planblock.specs.Plans.{read_verdict, plan_of}
@@ -25,15 +20,15 @@ no_words = words (λ c. false)
 
 -- a call on edge k: 7 at 0 for k above N
 unfoldable pub edge_verdict : List ℕ → ℕ → Verdict
-edge_verdict file k = and_then (verdict file) (cond (leb k (block_count (task_of file))) Accepted (Refused (Argument 0)))
+edge_verdict file k = and_then (verdict file) (cond (leb k (block_count (task_of file))) accept (Err (Argument 0)))
 
 -- U(k)
 unfoldable pub useful_words : List ℕ → ℕ → List ℕ
 useful_words file k = on_accepted (edge_verdict file k) (words (useful (task_of file) k)) no_words
 
 -- the search for the next read of a line after block k (document 02, item 2)
-unfoldable pub next_read_of : List ℕ → ℕ → ℕ → Next
-next_read_of file c k = on_accepted (edge_verdict file k) (as_next (next_read (task_of file) k c)) Never
+unfoldable pub next_read_of : List ℕ → ℕ → ℕ → Option ℕ
+next_read_of file c k = on_accepted (edge_verdict file k) (as_next (next_read (task_of file) k c)) None
 
 -- and how many reads it looks at
 unfoldable pub looked_of : List ℕ → ℕ → ℕ → ℕ
@@ -41,7 +36,7 @@ looked_of file c k = on_accepted (edge_verdict file k) (reads_looked_at (task_of
 
 -- a region (a, b): 7 at 0 unless 0 ≤ a < b ≤ N
 unfoldable pub region_verdict : List ℕ → ℕ → ℕ → Verdict
-region_verdict file a b = and_then (verdict file) (cond (ltb a b && leb b (block_count (task_of file))) Accepted (Refused (Argument 0)))
+region_verdict file a b = and_then (verdict file) (cond (ltb a b && leb b (block_count (task_of file))) accept (Err (Argument 0)))
 
 unfoldable pub loaded_words : List ℕ → ℕ → ℕ → List ℕ
 loaded_words file a b = on_accepted (region_verdict file a b) (words (loaded (task_of file) a b)) no_words
@@ -82,7 +77,7 @@ block_plan file block = on_accepted (block_verdict file block) (plan_for (task_o
 
 -- planning: the file's refusal, or what planning answers for its task
 pub record PlanAnswer (file : List ℕ) (v : Verdict) (p : Plan) : Type 0 where
-  pub refused : (x : Refusal) → verdict file ≡ Refused x → (v ≡ Refused x) × (p ≡ no_plan)
+  pub refused : (x : Refusal) → verdict file ≡ Err x → (v ≡ Err x) × (p ≡ no_plan)
   pub planned : IsAccepted file → Planned (task_of file) v p
 
 -- and the charges: those of the list that the plan holds

@@ -7,7 +7,7 @@ use Rattle.model.specs.Lists.{well_formed}
 use Rattle.model.specs.Regions.{region_length, cost}
 use Rattle.model.specs.Charges.{sum}
 use Rattle.model.specs.declared.Plan.{Plan}
-use Rattle.model.specs.declared.Verdict.{Verdict}
+use Rattle.model.specs.Answers.{Verdict}
 use Rattle.taskfile.specs.File.{IsAccepted, task_of}
 use Rattle.planner.specs.Calls.{price_lines, price_charges, PlanAnswer, plan_charges}
 

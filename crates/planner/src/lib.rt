@@ -9,7 +9,7 @@ ghost use Rattle.planblock.specs.Plans.{store_verdict, stored, read_verdict, pla
 ghost use Rattle.planner.specs.Calls.{no_words, edge_verdict, useful_words, next_read_of, looked_of, region_verdict, loaded_words, length_of, price_verdict, price_lines, price_cost, price_charges, block_verdict, block_place, block_plan, PlanAnswer, plan_charges};
 
 use lineset::LineSet;
-use model::{Next, Plan, Refusal, Verdict};
+use model::{Plan, Refusal};
 use planblock::PlanRead;
 use planning::FilePlan;
 use pricing::ChargedPrice;
@@ -17,22 +17,22 @@ use pricing::ChargedPrice;
 // The useful lines at an edge.
 #[derive(Clone, Copy)]
 pub struct UsefulLines {
-    pub verdict: Verdict,
+    pub verdict: Result<(), Refusal>,
     pub lines: LineSet,
 }
 
 // The next read of a line, and how many reads were looked at to find it.
 #[derive(Clone, Copy)]
 pub struct NextRead {
-    pub verdict: Verdict,
-    pub next: Next,
+    pub verdict: Result<(), Refusal>,
+    pub next: Option<u32>,
     pub looked: usize,
 }
 
 // A region's loaded lines and its length.
 #[derive(Clone, Copy)]
 pub struct RegionLines {
-    pub verdict: Verdict,
+    pub verdict: Result<(), Refusal>,
     pub loaded: LineSet,
     pub length: u64,
 }
@@ -40,7 +40,7 @@ pub struct RegionLines {
 // The plan of the points of a plan block, and the place of a refusal: the file is the first input, the block the second.
 #[derive(Clone, Copy)]
 pub struct BlockPrice {
-    pub verdict: Verdict,
+    pub verdict: Result<(), Refusal>,
     pub place: usize,
     pub plan: Plan,
 }
@@ -48,23 +48,23 @@ pub struct BlockPrice {
 // A plan of a file, and what each preempter is charged of its lines, from 0.
 #[derive(Clone, Copy)]
 pub struct ChargedPlan {
-    pub verdict: Verdict,
+    pub verdict: Result<(), Refusal>,
     pub plan: Plan,
     pub charges: [u32; 32],
 }
 
 // Whether k is an edge of an accepted file: the file's refusal, or 7 for k above N.
-fn check_edge(file: &[u8], k: usize) -> Verdict
+fn check_edge(file: &[u8], k: usize) -> Result<(), Refusal>
     ensures { result ≡ edge_verdict file.now k }
 {
     let checked = taskfile::check(file);
-    let Verdict::Accepted = checked else {
+    let Ok(()) = checked else {
         return checked;
     };
     if taskfile::block_count(file) < k {
-        return Verdict::Refused(Refusal::Argument(0));
+        return Err(Refusal::Argument(0));
     }
-    Verdict::Accepted
+    Ok(())
 }
 
 // U(k) of a file.
@@ -73,14 +73,14 @@ pub fn useful(file: &[u8], k: usize) -> UsefulLines
     ensures words_value { result.lines.words ≡ useful_words file.now k }
 {
     let checked = check_edge(file, k);
-    let Verdict::Accepted = checked else {
+    let Ok(()) = checked else {
         return UsefulLines {
             verdict: checked,
             lines: LineSet::empty(),
         };
     };
     UsefulLines {
-        verdict: Verdict::Accepted,
+        verdict: Ok(()),
         lines: reuse::useful_lines(file, k),
     }
 }
@@ -92,25 +92,25 @@ pub fn next_read(file: &[u8], line: usize, k: usize) -> NextRead
     ensures looked_value { result.looked ≡ looked_of file.now line k }
 {
     let checked = check_edge(file, k);
-    let Verdict::Accepted = checked else {
+    let Ok(()) = checked else {
         return no_read(checked);
     };
     let found = reuse::next_read(file, k, line);
     let next = found.next;
     NextRead {
-        verdict: Verdict::Accepted,
+        verdict: Ok(()),
         next,
         looked: found.looked,
     }
 }
 
 // What is answered of a search that is refused.
-fn no_read(verdict: Verdict) -> NextRead
-    ensures { (result.verdict ≡ verdict) × (result.next ≡ Next.Never) × (result.looked ≡ 0) }
+fn no_read(verdict: Result<(), Refusal>) -> NextRead
+    ensures { (result.verdict ≡ verdict) × (result.next ≡ None) × (result.looked ≡ 0) }
 {
     NextRead {
         verdict,
-        next: Next::Never,
+        next: None,
         looked: 0,
     }
 }
@@ -122,26 +122,26 @@ pub fn region(file: &[u8], a: usize, b: usize) -> RegionLines
     ensures length_value { result.length ≡ length_of file.now a b }
 {
     let checked = taskfile::check(file);
-    let Verdict::Accepted = checked else {
+    let Ok(()) = checked else {
         return no_region(checked);
     };
     if b <= a {
-        return no_region(Verdict::Refused(Refusal::Argument(0)));
+        return no_region(Err(Refusal::Argument(0)));
     }
     if taskfile::block_count(file) < b {
-        return no_region(Verdict::Refused(Refusal::Argument(0)));
+        return no_region(Err(Refusal::Argument(0)));
     }
     let found = regions::measure(file, a, b);
     let loaded = found.loaded;
     RegionLines {
-        verdict: Verdict::Accepted,
+        verdict: Ok(()),
         loaded,
         length: found.length,
     }
 }
 
 // What is answered of a region that is refused.
-fn no_region(verdict: Verdict) -> RegionLines
+fn no_region(verdict: Result<(), Refusal>) -> RegionLines
     ensures { (result.verdict ≡ verdict) × (result.loaded.words ≡ no_words) × (result.length ≡ 0) }
 {
     RegionLines {
@@ -159,7 +159,7 @@ pub fn price(file: &[u8], points: &[u16]) -> ChargedPrice
     ensures charges_value { result.charges ≡ price_charges file.now points.now }
 {
     let checked = taskfile::check(file);
-    let Verdict::Accepted = checked else {
+    let Ok(()) = checked else {
         return ChargedPrice {
             verdict: checked,
             lines: 0,
@@ -180,7 +180,7 @@ pub fn price_block(file: &[u8], block: &[u8]) -> BlockPrice
     let read = planblock::read(block);
     let readable = read.verdict;
     let before = answers::earlier(checked, readable);
-    let Verdict::Accepted = before else {
+    let Ok(()) = before else {
         let input = answers::whose(checked, readable);
         return no_block_price(before, answers::place_of(input, before));
     };
@@ -195,7 +195,7 @@ pub fn price_block(file: &[u8], block: &[u8]) -> BlockPrice
 }
 
 // What is answered of a block that is not priced.
-fn no_block_price(verdict: Verdict, place: usize) -> BlockPrice
+fn no_block_price(verdict: Result<(), Refusal>, place: usize) -> BlockPrice
     ensures { (result.verdict ≡ verdict) × (result.place ≡ place) × (result.plan ≡ no_plan) }
 {
     BlockPrice {
@@ -213,7 +213,7 @@ pub fn plan(file: &[u8]) -> ChargedPlan
     let least = least_plan(file);
     let verdict = least.verdict;
     let plan = least.plan;
-    let Verdict::Accepted = verdict else {
+    let Ok(()) = verdict else {
         return ChargedPlan {
             verdict,
             plan,
@@ -235,14 +235,14 @@ pub fn least_plan(file: &[u8]) -> FilePlan
     ensures { PlanAnswer file.now result.verdict result.plan }
 {
     let checked = taskfile::check(file);
-    let Verdict::Accepted = checked else {
+    let Ok(()) = checked else {
         return planning::refused_plan(checked);
     };
     planning::least_plan(file)
 }
 
 // Stores a plan in a lent block.
-pub fn store(plan: Plan, block: &mut [u8]) -> Verdict
+pub fn store(plan: Plan, block: &mut [u8]) -> Result<(), Refusal>
     ensures value { result ≡ store_verdict plan block.old }
     ensures block_after { block.new ≡ stored plan block.old }
 {

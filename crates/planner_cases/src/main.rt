@@ -5,7 +5,7 @@
 ghost use Rattle.std.specs.Prelude.{◌≤◌};
 
 use lineset::LineSet;
-use model::{Plan, Refusal, Verdict};
+use model::{Plan, Refusal};
 use pricing::ChargedPrice;
 use std::io;
 use std::rt::{Env, Files};
@@ -72,8 +72,8 @@ fn show_plan(rt: &impl Print, file: &[u8]) -> io::Result<()> {
     let plan = found.plan;
     desk::print(rt, b"plan")?;
     match verdict {
-        Verdict::Accepted => print_plan(rt, plan),
-        Verdict::Refused(refusal) => print_refusal(rt, refusal),
+        Ok(()) => print_plan(rt, plan),
+        Err(refusal) => print_refusal(rt, refusal),
     }
 }
 
@@ -88,8 +88,8 @@ fn show_useful(rt: &impl Print, file: &[u8], k: usize) -> io::Result<()> {
     let lines = found.lines;
     desk::print_field(rt, b"useful ", k as u64)?;
     match verdict {
-        Verdict::Accepted => print_useful(rt, lines),
-        Verdict::Refused(refusal) => print_refusal(rt, refusal),
+        Ok(()) => print_useful(rt, lines),
+        Err(refusal) => print_refusal(rt, refusal),
     }
 }
 
@@ -106,8 +106,8 @@ fn show_region(rt: &impl Print, file: &[u8], a: usize, b: usize) -> io::Result<(
     desk::print_field(rt, b"region ", a as u64)?;
     desk::print_field(rt, b" ", b as u64)?;
     match verdict {
-        Verdict::Accepted => print_region(rt, loaded, found.length),
-        Verdict::Refused(refusal) => print_refusal(rt, refusal),
+        Ok(()) => print_region(rt, loaded, found.length),
+        Err(refusal) => print_refusal(rt, refusal),
     }
 }
 
@@ -117,8 +117,8 @@ fn show_price(rt: &impl Print, file: &[u8], m: usize, points: &[u16]) -> io::Res
     desk::print(rt, b"list")?;
     print_points(rt, points, points.len())?;
     match verdict {
-        Verdict::Accepted => print_price(rt, price, m),
-        Verdict::Refused(refusal) => print_refusal(rt, refusal),
+        Ok(()) => print_price(rt, price, m),
+        Err(refusal) => print_refusal(rt, refusal),
     }
 }
 
@@ -182,7 +182,7 @@ fn show_small(rt: &impl Print, file: &[u8], n: usize, m: usize) -> io::Result<()
 fn show_task(rt: &impl Print, file: &[u8]) -> io::Result<()> {
     show_plan(rt, file)?;
     let checked = taskfile::check(file);
-    let Verdict::Accepted = checked else {
+    let Ok(()) = checked else {
         return Ok(());
     };
     show_small(

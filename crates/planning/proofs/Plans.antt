@@ -1,5 +1,6 @@
 -- What a list and its price make of a plan, and demand 3 of the list that the choices at all edges lead along.
 -- Assumes nothing.
+use Rattle.std.specs.Prelude.{Err}
 use Prim.Native.Nat.{ℕ, ◌-◌, ◌^◌, ◌≤◌, ◌<◌, zero-le}
 use mathlib.Core.Path.{◌≡◌, refl, sym, ap, ◌∙◌}
 use mathlib.Core.Logic.{inl, inr}
@@ -9,10 +10,9 @@ use native.Mathlib.Omega.{arith}
 use lib.ListN.{length, get_or, take, drop, replicate, take-append-drop, length-drop, length-replicate, length-take}
 use Rattle.model.specs.Task.{Task, block_count}
 use Rattle.model.specs.Regions.{lines, cost, FirstBest, NoPlacementFits}
-use Rattle.model.specs.Answers.{pricing}
+use Rattle.model.specs.Answers.{accept, pricing}
 use Rattle.model.specs.Planning.{plan_for, no_plan, Planned}
 use Rattle.model.specs.declared.Refusal.TheVariants.{NoPlacement}
-use Rattle.model.specs.declared.Verdict.TheVariants.{Accepted, Refused}
 use Rattle.model.proofs.Verdicts.{never_both}
 use Rattle.model.proofs.Regions.{fits-accepted, lines-most}
 use Rattle.placement.specs.Rows.{none, Followed}
@@ -34,7 +34,7 @@ module _ (count : ℕ) (points : List ℕ) (few : count ≤ 63) (zeros : drop co
       sym (take-append-drop count points) ∙ ap (λ (l : List ℕ). take count points ++ l) zeros ∙
       ap (λ (n : ℕ). take count points ++ replicate (64 - n) 0) (sym count-is)
 
-  module _ (t : Task) (accepted : pricing t (take count points) ≡ Accepted) (price : Price) (prices : Prices t (take count points) price) where
+  module _ (t : Task) (accepted : pricing t (take count points) ≡ accept) (price : Price) (prices : Prices t (take count points) price) where
     lines_are : price.lines ≡ lines t (take count points)
     lines_are = prices.lines ∙ rw accepted refl
 
@@ -59,7 +59,7 @@ module _ (count : ℕ) (points : List ℕ) (few : count ≤ 63) (zeros : drop co
 
 module _ (t : Task) {costs nexts sums : List ℕ} (positive : 0 < block_count t) (most : block_count t ≤ 64) (rows : Choices t costs nexts sums) where
   -- no list leads from edge 0: none fits
-  pub none-planned : get_or costs 0 0 ≡ none → Planned t (Refused NoPlacement) no_plan
+  pub none-planned : get_or costs 0 0 ≡ none → Planned t (Err NoPlacement) no_plan
   none-planned e =
       let none-fits : NoPlacementFits t = refused rows positive most e in
       record {
@@ -81,13 +81,13 @@ module _ (t : Task) {costs nexts sums : List ℕ} (positive : 0 < block_count t)
     best : FirstBest t (take count points)
     best = optimal rows positive (take count points) followed.leads cost-found
 
-    list-accepted : pricing t (take count points) ≡ Accepted
+    list-accepted : pricing t (take count points) ≡ accept
     list-accepted = fits-accepted t (take count points) best.least-cost.well-formed best.least-cost.fits
 
     lines-small : lines t (take count points) < 2 ^ 64
     lines-small = omega (arith, lines-most t (take count points), count-is count points few followed.beyond)
 
-    list-prices : Prices t (take count points) (record { verdict = Accepted; lines = get_or sums 0 0; cost = get_or costs 0 0 })
+    list-prices : Prices t (take count points) (record { verdict = accept; lines = get_or sums 0 0; cost = get_or costs 0 0 })
     list-prices =
         record {
           verdict = sym list-accepted;
@@ -98,7 +98,7 @@ module _ (t : Task) {costs nexts sums : List ℕ} (positive : 0 < block_count t)
     pub list-lines-fit : get_or sums 0 0 < 65536
     list-lines-fit = lines_fit count points few followed.beyond t list-accepted _ list-prices
 
-    pub list-planned : Planned t Accepted (record { blocks = block_count t; id = t.header.id; count = count; lines = get_or sums 0 0; cost = get_or costs 0 0; points = points })
+    pub list-planned : Planned t accept (record { blocks = block_count t; id = t.header.id; count = count; lines = get_or sums 0 0; cost = get_or costs 0 0; points = points })
     list-planned =
         record {
           answers = inl refl;

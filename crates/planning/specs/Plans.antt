@@ -1,10 +1,9 @@
 -- What the plan of given points is. Assumes nothing.
 use Rattle.std.specs.Prelude.{ℕ, ◌≡◌, List}
 use Rattle.model.specs.Task.{Task, block_count}
-use Rattle.model.specs.Answers.{on_accepted, pricing}
+use Rattle.model.specs.Answers.{Verdict, on_accepted, pricing}
 use Rattle.model.specs.Planning.{plan_for, no_plan}
 use Rattle.model.specs.declared.Plan.{Plan}
-use Rattle.model.specs.declared.Verdict.{Verdict}
 use Rattle.pricing.specs.declared.Price.{Price}
 
 -- what is answered for a list of points: the list's plan, or the refusal of its price

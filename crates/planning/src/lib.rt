@@ -9,7 +9,7 @@ ghost use Rattle.reuse.specs.Counts.{NewLines};
 ghost use Rattle.planning.specs.Choices.{ChoiceAt, Choices};
 ghost use Rattle.planning.specs.Plans.{PointsPlanned, plan_with};
 
-use model::{Plan, Refusal, Verdict};
+use model::{Plan, Refusal};
 use placement::Choice;
 use pricing::Price;
 use regions::CountedRegion;
@@ -17,7 +17,7 @@ use regions::CountedRegion;
 // A plan of a file, or the refusal.
 #[derive(Clone, Copy)]
 pub struct FilePlan {
-    pub verdict: Verdict,
+    pub verdict: Result<(), Refusal>,
     pub plan: Plan,
 }
 
@@ -31,7 +31,7 @@ pub fn price_points(file: &[u8], first: Plan) -> FilePlan
     let count = first.count as usize;
     let price = pricing::price_of(file, &points[..count]);
     let verdict = price.verdict;
-    let Verdict::Accepted = verdict else {
+    let Ok(()) = verdict else {
         return refused_plan(verdict);
     };
     FilePlan {
@@ -128,12 +128,12 @@ fn plan_along(file: &[u8], costs: &[u64; 65], nexts: &[usize; 65], lines: &[u64;
 {
     let cost = costs[0];
     if cost == placement::NONE {
-        return refused_plan(Verdict::Refused(Refusal::NoPlacement));
+        return refused_plan(Err(Refusal::NoPlacement));
     }
     let list = placement::follow(nexts, taskfile::block_count(file));
     let count = list.count;
     let points = list.points;
-    let verdict = Verdict::Accepted;
+    let verdict = Ok(());
     let sum = lines[0];
     let price = Price {
         verdict,
@@ -147,7 +147,7 @@ fn plan_along(file: &[u8], costs: &[u64; 65], nexts: &[usize; 65], lines: &[u64;
 }
 
 // What is answered where no plan is.
-pub fn refused_plan(verdict: Verdict) -> FilePlan
+pub fn refused_plan(verdict: Result<(), Refusal>) -> FilePlan
     ensures { (result.verdict ≡ verdict) × (result.plan ≡ no_plan) }
 {
     FilePlan {

@@ -1,5 +1,6 @@
 -- The plan of a well-formed list can be stored: its points are right one by one, and zeros follow.
 -- Assumes nothing.
+use Rattle.model.specs.Answers.{accept}
 use Prim.Native.Nat.{ℕ, zero, suc, ◌+◌, ◌-◌, ◌<◌, ◌≤◌}
 use mathlib.Core.Path.{◌≡◌, refl, ap, ◌∙◌}
 use mathlib.Core.Bool.{true}
@@ -13,7 +14,6 @@ use borrow.Author.Tests.{le-leb, lt-ltb, le-ltb, eq-eqb}
 use Rattle.model.specs.Task.{Task, block_count}
 use Rattle.model.specs.Lists.{well_formed}
 use Rattle.model.specs.Planning.{plan_for}
-use Rattle.model.specs.declared.Verdict.TheVariants.{Accepted}
 use Rattle.model.proofs.Lists.{rising-short, point-right}
 use Rattle.model.proofs.Lowest.{nowhere-lowest}
 use Rattle.planvalue.specs.Values.{point_before, point_right, plan_in_range, plan_verdict}
@@ -46,7 +46,7 @@ module _ (t : Task) (ps : List ℕ) (least : 1 ≤ block_count t) (most : block_
           ap (λ (j : ℕ). get_or points j 0) s ∙ get_or-append-add ps _ (i - length ps) 0 ∙ get_or-replicate {A = ℕ} (64 - length ps) (i - length ps) 0 0 (omega (arith, short)) in
           rw (le-ltb i (length ps) l) (eq-eqb (get_or points i 0) 0 zero)
 
-  pub list-stores : plan_verdict (plan_for t ps) ≡ Accepted
+  pub list-stores : plan_verdict (plan_for t ps) ≡ accept
   unfolding plan_verdict plan_in_range plan_for
   list-stores =
       rw (

@@ -1,11 +1,9 @@
 -- Plan values (document 01, "Blocks of 512 bytes" and "Numbers given to the build"): which plans can be stored. Assumes nothing.
-use Rattle.std.specs.Prelude.{ℕ, zero, suc, Bool, cond, ◌&&◌, List, eqb, leb, ltb, get_or}
+use Rattle.std.specs.Prelude.{ℕ, zero, suc, Bool, cond, ◌&&◌, List, eqb, leb, ltb, get_or, Err}
 use Rattle.model.specs.Lists.{lowest_from, right_point}
-use Rattle.model.specs.Answers.{refused_at}
+use Rattle.model.specs.Answers.{accept, Verdict, refused_at}
 use Rattle.model.specs.declared.Plan.{Plan}
 use Rattle.model.specs.declared.Refusal.TheVariants.{Argument}
-use Rattle.model.specs.declared.Verdict.{Verdict}
-use Rattle.model.specs.declared.Verdict.TheVariants.{Accepted, Refused}
 
 -- the point before index i; 0 before the first
 unfoldable pub point_before : List ℕ → ℕ → ℕ
@@ -22,8 +20,8 @@ plan_in_range p = leb 1 p.blocks && leb p.blocks 64 && leb p.count 63
 
 -- 7 at the lowest wrong entry
 abbrev pub points_verdict : Plan → Verdict
-points_verdict p = refused_at (lowest_from (point_right p.blocks p.count p.points) 0 64) Argument Accepted
+points_verdict p = refused_at (lowest_from (point_right p.blocks p.count p.points) 0 64) Argument accept
 
 -- can a plan be stored: 7 at 0 for N or the count, then for the entries
 unfoldable pub plan_verdict : Plan → Verdict
-plan_verdict p = cond (plan_in_range p) (points_verdict p) (Refused (Argument 0))
+plan_verdict p = cond (plan_in_range p) (points_verdict p) (Err (Argument 0))

@@ -2,13 +2,12 @@
 #![tactic(auto)]
 
 ghost use Rattle.std.specs.Prelude.{◌≡◌, true, ℕ, ◌<◌, ◌≤◌, get_or};
-ghost use Rattle.model.specs.Answers.{refused_at};
+ghost use Rattle.model.specs.Answers.{accept, refused_at};
 ghost use Rattle.model.specs.Lists.{lowest_from, right_point};
 ghost use Rattle.model.specs.declared.Refusal.TheVariants.{Argument};
-ghost use Rattle.model.specs.declared.Verdict.TheVariants.{Accepted};
 ghost use Rattle.planvalue.specs.Values.{point_before, point_right, points_verdict, plan_in_range, plan_verdict};
 
-use model::{Plan, Refusal, Verdict};
+use model::{Plan, Refusal};
 
 // A point p after the point a is above it and below n.
 fn right_point(n: u16, a: u16, p: u16) -> bool
@@ -53,22 +52,22 @@ fn any_behind(points: &[u16; 64], count: usize) -> u16
 }
 
 // The verdict on the entries below end: the lowest wrong one.
-fn first_wrong(blocks: u16, count: usize, points: &[u16; 64], end: usize) -> Verdict
+fn first_wrong(blocks: u16, count: usize, points: &[u16; 64], end: usize) -> Result<(), Refusal>
     requires { end ≤ 64 }
-    ensures { result ≡ refused_at (lowest_from (point_right blocks count points.now) 0 end) Argument Accepted }
+    ensures { result ≡ refused_at (lowest_from (point_right blocks count points.now) 0 end) Argument accept }
 {
     let mut i = 0;
     while i < end {
         if !point_right(blocks, count, points, i) {
-            return Verdict::Refused(Refusal::Argument(i));
+            return Err(Refusal::Argument(i));
         }
         i += 1;
     }
-    Verdict::Accepted
+    Ok(())
 }
 
 // The verdict on all entries of a plan in range: that on its points, where those behind them are zeros.
-fn check_points(plan: Plan) -> Verdict
+fn check_points(plan: Plan) -> Result<(), Refusal>
     requires { plan_in_range plan ≡ true }
     ensures { result ≡ points_verdict plan }
 {
@@ -95,11 +94,11 @@ fn in_range(plan: Plan) -> bool
 }
 
 // Whether a plan can be stored.
-pub fn check(plan: Plan) -> Verdict
+pub fn check(plan: Plan) -> Result<(), Refusal>
     ensures { result ≡ plan_verdict plan }
 {
     if !in_range(plan) {
-        return Verdict::Refused(Refusal::Argument(0));
+        return Err(Refusal::Argument(0));
     }
     check_points(plan)
 }

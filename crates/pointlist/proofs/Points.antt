@@ -1,5 +1,6 @@
 -- The points of a list, one at a time.
 -- Assumes nothing.
+use Rattle.std.specs.Prelude.{None, Option, Some}
 use Prim.Native.Nat.{ℕ, zero, suc, ◌+◌, ◌≤◌, ◌<◌}
 use mathlib.Core.Path.{◌≡◌, refl, ◌∙◌}
 use mathlib.Core.Bool.{Bool, true, false, cond, and-false, and-eq-true_iff}
@@ -13,19 +14,17 @@ use lib.Dec.{ltb}
 use lib.ListN.{length, get_or, drop, drop_of_length-le, get_or-eq_default}
 use lib.Seq.{drop-cons}
 use Rattle.model.specs.Lists.{steps, lowest, right_point, wrong_point}
-use Rattle.model.specs.declared.Place.{Place}
-use Rattle.model.specs.declared.Place.TheVariants.{Nowhere, At}
 
 -- the lowest wrong point of the list from index i on, where last is the point before
-abbrev pub wrong_from : ℕ → List ℕ → ℕ → ℕ → Place
+abbrev pub wrong_from : ℕ → List ℕ → ℕ → ℕ → Option ℕ
 wrong_from n ps i last = lowest (right_point n) i (steps last (drop i ps))
 
 module _ (n : ℕ) (ps : List ℕ) (i last d : ℕ) (h : i < length ps) where
-  next : wrong_from n ps i last ≡ cond (right_point n last (get_or ps i d)) (wrong_from n ps (i + 1) (get_or ps i d)) (At i)
+  next : wrong_from n ps i last ≡ cond (right_point n last (get_or ps i d)) (wrong_from n ps (i + 1) (get_or ps i d)) (Some i)
   unfolding lowest steps
   next = rw (add-one, drop-cons ps i d h)
 
-  pub point-wrong : (get_or ps i d ≤ last) ⊎ (n ≤ get_or ps i d) → wrong_from n ps i last ≡ At i
+  pub point-wrong : (get_or ps i d ≤ last) ⊎ (n ≤ get_or ps i d) → wrong_from n ps i last ≡ Some i
   point-wrong w =
       next ∙
       ⊎_elim (λ l. rw (le-ltb last (get_or ps i d) l) refl) (λ l. rw (le-ltb (get_or ps i d) n l, and-false) refl) w
@@ -34,24 +33,24 @@ module _ (n : ℕ) (ps : List ℕ) (i last d : ℕ) (h : i < length ps) where
   point-right l m = next ∙ rw (lt-ltb last (get_or ps i d) l, lt-ltb (get_or ps i d) n m) refl
 
   -- where no point is wrong, this one is right and no later one is wrong
-  pub point-rising : wrong_from n ps i last ≡ Nowhere
-      → (last < get_or ps i d) × (get_or ps i d < n) × (wrong_from n ps (i + 1) (get_or ps i d) ≡ Nowhere)
+  pub point-rising : wrong_from n ps i last ≡ None
+      → (last < get_or ps i d) × (get_or ps i d < n) × (wrong_from n ps (i + 1) (get_or ps i d) ≡ None)
   point-rising e = go (right_point n last (get_or ps i d)) refl (rw next at e)
     where
-      go : (b : Bool) → right_point n last (get_or ps i d) ≡ b → cond b (wrong_from n ps (i + 1) (get_or ps i d)) (At i) ≡ Nowhere
-          → (last < get_or ps i d) × (get_or ps i d < n) × (wrong_from n ps (i + 1) (get_or ps i d) ≡ Nowhere)
+      go : (b : Bool) → right_point n last (get_or ps i d) ≡ b → cond b (wrong_from n ps (i + 1) (get_or ps i d)) (Some i) ≡ None
+          → (last < get_or ps i d) × (get_or ps i d < n) × (wrong_from n ps (i + 1) (get_or ps i d) ≡ None)
       go true r q =
           let both = (and-eq-true_iff (ltb last (get_or ps i d)) (ltb (get_or ps i d) n)).0 r in
           (ltb-true _ _ both.0, ltb-true _ _ both.1, q)
       go false r q = let z : ◌≡◌ {A = ℕ} 0 1 = cc in absurd (omega arith)
 
-pub points-end : (n : ℕ) (ps : List ℕ) (i last : ℕ) → length ps ≤ i → wrong_from n ps i last ≡ Nowhere
+pub points-end : (n : ℕ) (ps : List ℕ) (i last : ℕ) → length ps ≤ i → wrong_from n ps i last ≡ None
 unfolding lowest steps
 points-end n ps i last h = rw (drop_of_length-le ps h) refl
 
 -- the regions of a list with no wrong point: region i starts at the point before it, or at 0, and ends at its own point, or at n
-module _ (n : ℕ) (ps : List ℕ) (least : 0 < n) (w : wrong_point n ps ≡ Nowhere) where
-  from_start : (i : ℕ) → i ≤ length ps → (i ≤ get_or (0 ∷ ps) i n) × (get_or (0 ∷ ps) i n < n) × (wrong_from n ps i (get_or (0 ∷ ps) i n) ≡ Nowhere)
+module _ (n : ℕ) (ps : List ℕ) (least : 0 < n) (w : wrong_point n ps ≡ None) where
+  from_start : (i : ℕ) → i ≤ length ps → (i ≤ get_or (0 ∷ ps) i n) × (get_or (0 ∷ ps) i n < n) × (wrong_from n ps i (get_or (0 ∷ ps) i n) ≡ None)
   from_start zero l = (omega arith, least, w)
   from_start (suc i) l =
       let before = from_start i (omega arith) in

@@ -4,10 +4,8 @@
 ghost use Rattle.std.specs.Prelude.{◌≡◌};
 ghost use Rattle.model.specs.Lists.{wrong_point};
 
-use model::Place;
-
 // The lowest index at which a list of points of a task of n blocks is wrong.
-pub fn wrong_point(points: &[u16], n: usize) -> Place
+pub fn wrong_point(points: &[u16], n: usize) -> Option<usize>
     ensures { result ≡ wrong_point n points.now }
 {
     let mut last = 0;
@@ -15,10 +13,10 @@ pub fn wrong_point(points: &[u16], n: usize) -> Place
     while i < points.len() {
         let point = points[i] as usize;
         if point <= last || n <= point {
-            return Place::At(i);
+            return Some(i);
         }
         last = point;
         i += 1;
     }
-    Place::Nowhere
+    None
 }

@@ -7,14 +7,12 @@ ghost use Rattle.model.specs.Task.{block_count};
 ghost use Rattle.model.specs.Lists.{wrong_point};
 ghost use Rattle.taskfile.specs.File.{IsAccepted, task_of};
 
-use decimals::Decimal;
-use model::{Place, Verdict};
 use pricing::ChargedPrice;
 use std::io;
 
 // The price of a well-formed list.
 fn print_price(rt: &impl Print, file: &[u8], points: &[u16], price: ChargedPrice) -> io::Result<()>
-    requires { IsAccepted file.now × (wrong_point (block_count (task_of file.now)) points.now ≡ Place.Nowhere) }
+    requires { IsAccepted file.now × (wrong_point (block_count (task_of file.now)) points.now ≡ None) }
 {
     report::print_list(
         rt,
@@ -35,14 +33,14 @@ fn print_answer(rt: &impl Print, file: &[u8], points: &[u16; 64], count: usize) 
     let price = planner::price(file, listed);
     let verdict = price.verdict;
     match verdict {
-        Verdict::Accepted => print_price(rt, file, listed, price),
-        Verdict::Refused(refusal) => desk::print_refusal(rt, refusal),
+        Ok(()) => print_price(rt, file, listed, price),
+        Err(refusal) => desk::print_refusal(rt, refusal),
     }
 }
 
 fn main(rt: HostRuntime) -> io::Result<()> {
     let mut points = [0u16; 64];
-    let Decimal::Number(count) = desk::read_points(&rt, &mut points) else {
+    let Some(count) = desk::read_points(&rt, &mut points) else {
         return desk::print_usage(
             &rt,
             b"price POINT.. < FILE   POINT: an edge, 1 to N - 1, each above the one before; FILE: a task file of N basic blocks",

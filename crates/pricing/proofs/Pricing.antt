@@ -1,5 +1,6 @@
 -- The regions of a list, one at a time, and what the price of a list is.
 -- Assumes nothing.
+use Rattle.std.specs.Prelude.{Err, None, Some}
 use Prim.Native.Nat.{ℕ, suc, ◌+◌, ◌*◌, ◌^◌, ◌≤◌, ◌<◌}
 use mathlib.Core.Path.{◌≡◌, refl, sym, ◌∙◌}
 use mathlib.Core.Bool.{true, false, cond}
@@ -16,11 +17,9 @@ use lib.Seq.{drop-cons}
 use Rattle.model.specs.Task.{Task, block_count}
 use Rattle.model.specs.Lists.{Region, regions, total, lowest, wrong_point}
 use Rattle.model.specs.Regions.{region_lines, region_fits, region_cost, region_above, lines, cost}
-use Rattle.model.specs.Answers.{pricing}
-use Rattle.model.specs.declared.Place.TheVariants.{Nowhere, At}
+use Rattle.model.specs.Answers.{accept, pricing}
 use Rattle.model.specs.declared.Refusal.{Refusal}
 use Rattle.model.specs.declared.Refusal.TheVariants.{Argument, AboveLimit}
-use Rattle.model.specs.declared.Verdict.TheVariants.{Accepted, Refused}
 use Rattle.pricing.specs.Prices.{Prices}
 
 -- the regions of a list from region i on, which starts at edge a
@@ -95,27 +94,27 @@ module _ {t : Task} {ps : List ℕ} {i count paid : ℕ} (w : Passed t ps i coun
           all-cost = w.all-cost ∙ rw next (omega arith);
         }
 
-    pub passed-above : region_fits t (start_of t ps i) (get_or ps i (block_count t)) ≡ false → region_above t ps ≡ At i
+    pub passed-above : region_fits t (start_of t ps i) (get_or ps i (block_count t)) ≡ false → region_above t ps ≡ Some i
     unfolding lowest
     passed-above fit = w.above ∙ rw (next, fit) refl
 
-  pub passed-end : length ps < i → (region_above t ps ≡ Nowhere) × (lines t ps ≡ count) × (cost t ps ≡ paid)
+  pub passed-end : length ps < i → (region_above t ps ≡ None) × (lines t ps ≡ count) × (cost t ps ≡ paid)
   unfolding lowest total
   passed-end h = (w.above ∙ rw from_end refl, w.all_lines ∙ rw (from_end, add-zero) refl, w.all-cost ∙ rw (from_end, add-zero) refl)
 
 module _ (t : Task) (ps : List ℕ) where
-  pub wrong-pricing : {i : ℕ} → wrong_point (block_count t) ps ≡ At i → pricing t ps ≡ Refused (Argument i)
+  pub wrong-pricing : {i : ℕ} → wrong_point (block_count t) ps ≡ Some i → pricing t ps ≡ Err (Argument i)
   wrong-pricing e = rw e refl
 
-  pub above-pricing : {i : ℕ} → wrong_point (block_count t) ps ≡ Nowhere → region_above t ps ≡ At i → pricing t ps ≡ Refused (AboveLimit i)
+  pub above-pricing : {i : ℕ} → wrong_point (block_count t) ps ≡ None → region_above t ps ≡ Some i → pricing t ps ≡ Err (AboveLimit i)
   above-pricing e f = rw (e, f) refl
 
-  pub accepted-pricing : wrong_point (block_count t) ps ≡ Nowhere → region_above t ps ≡ Nowhere → pricing t ps ≡ Accepted
+  pub accepted-pricing : wrong_point (block_count t) ps ≡ None → region_above t ps ≡ None → pricing t ps ≡ accept
   accepted-pricing e f = rw (e, f) refl
 
-  pub refused-prices : {r : Refusal} → pricing t ps ≡ Refused r → Prices t ps (record { verdict = Refused r; lines = 0; cost = 0 })
+  pub refused-prices : {r : Refusal} → pricing t ps ≡ Err r → Prices t ps (record { verdict = Err r; lines = 0; cost = 0 })
   refused-prices e = record { verdict = sym e; lines = rw e refl; cost = rw e refl }
 
-  pub accepted-prices : {m x : ℕ} → pricing t ps ≡ Accepted → lines t ps ≡ m → cost t ps ≡ x
-      → Prices t ps (record { verdict = Accepted; lines = m; cost = x })
+  pub accepted-prices : {m x : ℕ} → pricing t ps ≡ accept → lines t ps ≡ m → cost t ps ≡ x
+      → Prices t ps (record { verdict = accept; lines = m; cost = x })
   accepted-prices e f g = record { verdict = sym e; lines = rw (e, f) refl; cost = rw (e, g) refl }

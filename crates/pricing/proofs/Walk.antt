@@ -1,6 +1,7 @@
 -- The walk that counts a list's lines: what it knows of the lines, at its start, after the next
 -- read and in a new region; and what is counted as it passes the edges, of the regions before and
 -- of the one that it is in. Assumes nothing.
+use Rattle.std.specs.Prelude.{None}
 use Prim.Native.Nat.{ℕ, suc, ◌+◌, ◌≤◌, ◌<◌}
 use mathlib.Core.Path.{◌≡◌, refl, sym, ◌∙◌}
 use mathlib.Core.Bool.{Bool, true, false, cond, ◌&&◌}
@@ -22,7 +23,6 @@ use Rattle.model.specs.Lists.{wrong_point}
 use Rattle.model.specs.Regions.{region_lines}
 use Rattle.model.specs.declared.Line.{Line}
 use Rattle.model.specs.declared.Line.TheVariants.{Empty, Held}
-use Rattle.model.specs.declared.Place.TheVariants.{Nowhere}
 use Rattle.model.proofs.Histories.{LiesOn, History, history-none, history-more}
 use Rattle.model.proofs.Loads.{loaded_by, loaded-none, loaded-all, loaded-more}
 use Rattle.model.proofs.ReadOrder.{edge}
@@ -156,7 +156,7 @@ module _ (t : Task) (ps : List ℕ) (lent : List ℕ) where
         rest = λ q l. refl;
       }
 
-  module _ (least : 0 < block_count t) (right : wrong_point (block_count t) ps ≡ Nowhere) {i r count : ℕ} {lines : List ℕ} (w : AtEdge i r count lines) where
+  module _ (least : 0 < block_count t) (right : wrong_point (block_count t) ps ≡ None) {i r count : ℕ} {lines : List ℕ} (w : AtEdge i r count lines) where
     -- there are as many edges before a region as regions, at least, and it is not empty
     pub edges : (r ≤ start_of t ps r) × (start_of t ps r < get_or ps r (block_count t)) × (get_or ps r (block_count t) ≤ block_count t)
     edges = region-edges (block_count t) ps least right r w.index

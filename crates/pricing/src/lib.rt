@@ -12,12 +12,12 @@ ghost use Rattle.model.specs.Answers.{on_accepted};
 ghost use Rattle.taskfile.specs.File.{IsAccepted, task_of};
 ghost use Rattle.pricing.specs.Prices.{Prices, ChargedPrices, Loads, RestStays};
 
-use model::{Line, Place, Refusal, Verdict};
+use model::{Line, Refusal};
 
 // What pricing a list answers: its lines and cost, or zeros with a refusal.
 #[derive(Clone, Copy)]
 pub struct Price {
-    pub verdict: Verdict,
+    pub verdict: Result<(), Refusal>,
     pub lines: u64,
     pub cost: u64,
 }
@@ -25,7 +25,7 @@ pub struct Price {
 // The same with each preempter's charge, from 0; a refusal charges nothing.
 #[derive(Clone, Copy)]
 pub struct ChargedPrice {
-    pub verdict: Verdict,
+    pub verdict: Result<(), Refusal>,
     pub lines: u64,
     pub cost: u64,
     pub charges: [u32; 32],
@@ -37,8 +37,8 @@ pub fn price_of(file: &[u8], points: &[u16]) -> Price
     ensures { Prices (task_of file.now) points.now result }
 {
     match pointlist::wrong_point(points, taskfile::block_count(file)) {
-        Place::At(i) => no_price(Refusal::Argument(i)),
-        Place::Nowhere => {
+        Some(i) => no_price(Refusal::Argument(i)),
+        None => {
             let mut lines = [0u32; 64];
             count_lines(file, points, &mut lines);
             price_regions(file, points, &lines)
@@ -52,8 +52,8 @@ pub fn charged_price_of(file: &[u8], points: &[u16]) -> ChargedPrice
     ensures { ChargedPrices (task_of file.now) points.now result }
 {
     match pointlist::wrong_point(points, taskfile::block_count(file)) {
-        Place::At(i) => with_charges(no_price(Refusal::Argument(i)), [0u32; 32]),
-        Place::Nowhere => {
+        Some(i) => with_charges(no_price(Refusal::Argument(i)), [0u32; 32]),
+        None => {
             let mut lines = [0u32; 64];
             let mut charges = [0u32; 32];
             charge_lines(file, points, &mut lines, &mut charges);
@@ -64,7 +64,7 @@ pub fn charged_price_of(file: &[u8], points: &[u16]) -> ChargedPrice
 
 // The charges of a well-formed list.
 pub fn charges_of(file: &[u8], points: &[u16]) -> [u32; 32]
-    requires { IsAccepted file.now × (wrong_point (block_count (task_of file.now)) points.now ≡ Place.Nowhere) }
+    requires { IsAccepted file.now × (wrong_point (block_count (task_of file.now)) points.now ≡ None) }
     ensures { result ≡ Charges.charges (task_of file.now) points.now }
 {
     let mut lines = [0u32; 64];
@@ -77,7 +77,7 @@ pub fn charges_of(file: &[u8], points: &[u16]) -> [u32; 32]
 // and the region that read it last, from 1 on. A read loads its line if the line is of H, holds the
 // number, and was read last in an earlier region. Entries past the list's regions stay as they are.
 pub fn count_lines(file: &[u8], points: &[u16], lines: &mut [u32; 64])
-    requires { IsAccepted file.now × (wrong_point (block_count (task_of file.now)) points.now ≡ Place.Nowhere) × (length lines.old ≡ 64) }
+    requires { IsAccepted file.now × (wrong_point (block_count (task_of file.now)) points.now ≡ None) × (length lines.old ≡ 64) }
     ensures loads { Loads (task_of file.now) points.now lines.new }
     ensures rest_stays { RestStays points.now lines.old lines.new }
 {
@@ -123,7 +123,7 @@ pub fn count_lines(file: &[u8], points: &[u16], lines: &mut [u32; 64])
 // The same walk with charges: each line's mark is the first preempter that touches it, and a read
 // that loads the line adds one to that preempter's charge. The charges are lent as zeros.
 fn charge_lines(file: &[u8], points: &[u16], lines: &mut [u32; 64], charges: &mut [u32; 32])
-    requires { IsAccepted file.now × (wrong_point (block_count (task_of file.now)) points.now ≡ Place.Nowhere) × (length lines.old ≡ 64) × (charges.old ≡ no_charges) }
+    requires { IsAccepted file.now × (wrong_point (block_count (task_of file.now)) points.now ≡ None) × (length lines.old ≡ 64) × (charges.old ≡ no_charges) }
     ensures { Loads (task_of file.now) points.now lines.new × (charges.new ≡ Charges.charges (task_of file.now) points.now) }
 {
     let cache = cacheline::geometry_of(file);
@@ -178,7 +178,7 @@ fn loads(line: Line, number: u32, evicted: bool, earlier: bool) -> u32
 
 // The price of a well-formed list, from the lines of its regions.
 fn price_regions(file: &[u8], points: &[u16], lines: &[u32; 64]) -> Price
-    requires { IsAccepted file.now × (wrong_point (block_count (task_of file.now)) points.now ≡ Place.Nowhere) × Loads (task_of file.now) points.now lines.now }
+    requires { IsAccepted file.now × (wrong_point (block_count (task_of file.now)) points.now ≡ None) × Loads (task_of file.now) points.now lines.now }
     ensures { Prices (task_of file.now) points.now result }
 {
     let n = taskfile::block_count(file);
@@ -198,7 +198,7 @@ fn price_regions(file: &[u8], points: &[u16], lines: &[u32; 64]) -> Price
         i += 1;
     }
     Price {
-        verdict: Verdict::Accepted,
+        verdict: Ok(()),
         lines: total,
         cost,
     }
@@ -222,8 +222,8 @@ fn with_charges(price: Price, charges: [u32; 32]) -> ChargedPrice
 {
     let verdict = price.verdict;
     let kept = match verdict {
-        Verdict::Accepted => charges,
-        Verdict::Refused(_) => [0u32; 32],
+        Ok(()) => charges,
+        Err(_) => [0u32; 32],
     };
     ChargedPrice {
         verdict,
@@ -235,10 +235,10 @@ fn with_charges(price: Price, charges: [u32; 32]) -> ChargedPrice
 
 // What is answered of a list that is refused.
 fn no_price(refusal: Refusal) -> Price
-    ensures { result ≡ record { verdict = Verdict.Refused refusal; lines = 0; cost = 0 } }
+    ensures { result ≡ record { verdict = Err refusal; lines = 0; cost = 0 } }
 {
     Price {
-        verdict: Verdict::Refused(refusal),
+        verdict: Err(refusal),
         lines: 0,
         cost: 0,
     }

@@ -1,16 +1,11 @@
 -- What the calls return and leave. Each returns the number of its refusal and leaves the place, 0 and 0 where it accepts
 -- (`verdict_number` and `verdict_place` of `model`); in the lent buffer it leaves numbers, eight bytes each. Assumes nothing.
-use Rattle.std.specs.Prelude.{ℕ, ◌≡◌, List, [], ◌∷◌, length}
-use Rattle.model.specs.Answers.{verdict_number, verdict_place, on_accepted, and_then, output_row}
-use Rattle.model.specs.declared.Next.{Next}
-use Rattle.model.specs.declared.Next.TheVariants.{Read, Never}
+use Rattle.std.specs.Prelude.{ℕ, ◌≡◌, List, [], ◌∷◌, length, None, Option, Some}
+use Rattle.model.specs.Answers.{Verdict, verdict_number, verdict_place, on_accepted, and_then, output_row}
 use Rattle.model.specs.declared.Plan.{Plan}
-use Rattle.model.specs.declared.Verdict.{Verdict}
 use Rattle.block.specs.Bytes.{les}
 use Rattle.planner.specs.Calls.{PlanAnswer, plan_charges}
 use Rattle.tracing.specs.declared.Settings.{Settings}
-use Rattle.enumerating.specs.declared.Found.{Found}
-use Rattle.enumerating.specs.declared.Found.TheVariants.{NoMore, Fitting}
 use Rattle.demand.specs.declared.Answer.{Answer}
 use Rattle.demand.specs.declared.Deadlines.{Deadlines}
 use Rattle.demand.specs.declared.Deadlines.TheVariants.{Met, Missed}
@@ -24,9 +19,9 @@ unfoldable pub left : ℕ → Verdict → List ℕ → List ℕ → List ℕ
 left size v numbers out = on_accepted (probed size v out) (les 8 numbers) out
 
 -- the numbers of a search: whether there is a next read, its number, and how many reads were looked at
-abbrev pub next_numbers : Next → ℕ → List ℕ
-next_numbers (Read m) looked = 1 ∷ m ∷ looked ∷ []
-next_numbers Never looked = 0 ∷ 0 ∷ looked ∷ []
+abbrev pub next_numbers : Option ℕ → ℕ → List ℕ
+next_numbers (Some m) looked = 1 ∷ m ∷ looked ∷ []
+next_numbers None looked = 0 ∷ 0 ∷ looked ∷ []
 
 -- what the call of planning returns and leaves: lines, cost and charges of a plan that is right for the file
 pub record PlanLeft (file out : List ℕ) (r place : ℕ) (after : List ℕ) : Type 0 where
@@ -43,9 +38,9 @@ settings_of size group ticks lines limit reload id =
     record { size = size; group = group; ticks = ticks; line_count = lines; limit = limit; reload = reload; id = id }
 
 -- the numbers of the next fitting list: whether there is one, its number, its lines and its cost, how many points it has, and one of them
-abbrev pub list_numbers : Found → ℕ → ℕ → List ℕ
-list_numbers NoMore count point = 0 ∷ 0 ∷ 0 ∷ 0 ∷ count ∷ point ∷ []
-list_numbers (Fitting l) count point = 1 ∷ l.number ∷ l.lines ∷ l.cost ∷ count ∷ point ∷ []
+abbrev pub list_numbers : Option FittingList → ℕ → ℕ → List ℕ
+list_numbers None count point = 0 ∷ 0 ∷ 0 ∷ 0 ∷ count ∷ point ∷ []
+list_numbers (Some l) count point = 1 ∷ l.number ∷ l.lines ∷ l.cost ∷ count ∷ point ∷ []
 
 -- the numbers of a test of deadlines: whether one is missed, and the first time that fails
 abbrev pub deadlines_numbers : Deadlines → List ℕ

@@ -19,9 +19,7 @@ ghost use Rattle.demand.specs.Calls.{answer as answerTo};
 ghost use Rattle.probe.specs.Calls.{probed, left, next_numbers, PlanLeft, settings_of, list_numbers, deadlines_numbers, DeadlinesLeft};
 
 use demand::{Answer, Deadlines, TaskRecord};
-use enumerating::Found;
 use lineset::LineSet;
-use model::{Next, Verdict};
 use tracing::Settings;
 
 // The useful lines at edge k, in 64 bytes.
@@ -255,12 +253,12 @@ pub extern "C" fn probe_next_list(
 }
 
 // The numbers of the next fitting list.
-fn list_numbers(found: Found, count: usize, point: u16) -> [u64; 6]
+fn list_numbers(found: Option<FittingList>, count: usize, point: u16) -> [u64; 6]
     ensures { result ≡ list_numbers found count point }
 {
     match found {
-        Found::NoMore => [0, 0, 0, 0, count as u64, point as u64],
-        Found::Fitting(list) => [
+        None => [0, 0, 0, 0, count as u64, point as u64],
+        Some(list) => [
             1,
             list.number,
             list.lines as u64,
@@ -312,12 +310,12 @@ fn deadlines_numbers(deadlines: Deadlines) -> [u64; 2]
 }
 
 // The numbers of a search.
-fn next_numbers(next: Next, looked: usize) -> [u64; 3]
+fn next_numbers(next: Option<u32>, looked: usize) -> [u64; 3]
     ensures { result ≡ next_numbers next looked }
 {
     match next {
-        Next::Read(number) => [1, number as u64, looked as u64],
-        Next::Never => [0, 0, looked as u64],
+        Some(number) => [1, number as u64, looked as u64],
+        None => [0, 0, looked as u64],
     }
 }
 
@@ -353,7 +351,7 @@ fn charge_numbers(lines: u64, cost: u64, charges: [u32; 32]) -> [u64; 34]
 }
 
 // Leaves numbers in a buffer of their size where the verdict accepts; returns the number of the refusal, and leaves its place.
-fn leave(verdict: Verdict, numbers: &[u64], out: &mut [u8], place: &mut usize) -> u32
+fn leave(verdict: Result<(), Refusal>, numbers: &[u64], out: &mut [u8], place: &mut usize) -> u32
     requires { length numbers.now ≤ 34 }
     ensures value { result ≡ verdict_number (probed (8 * length numbers.now) verdict out.old) }
     ensures place_after { place.new ≡ verdict_place (probed (8 * length numbers.now) verdict out.old) }
@@ -364,8 +362,8 @@ fn leave(verdict: Verdict, numbers: &[u64], out: &mut [u8], place: &mut usize) -
     *place = answers::verdict_place(answer);
     let number = answers::verdict_number(answer);
     match answer {
-        Verdict::Accepted => put_numbers(numbers, out),
-        Verdict::Refused(_) => {}
+        Ok(()) => put_numbers(numbers, out),
+        Err(_) => {}
     }
     number
 }

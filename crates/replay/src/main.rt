@@ -2,8 +2,6 @@
 // the refusal.
 #![tactic(auto)]
 
-use decimals::Decimal;
-use model::Verdict;
 use std::io;
 
 // The line of both counts.
@@ -18,14 +16,14 @@ fn print_answer(rt: &impl Print, file: &[u8], points: &[u16; 64], count: usize) 
     let misses = replaying::replay(file, desk::first(points, count));
     let verdict = misses.verdict;
     match verdict {
-        Verdict::Accepted => print_misses(rt, misses.alone, misses.preempted),
-        Verdict::Refused(refusal) => desk::print_refusal(rt, refusal),
+        Ok(()) => print_misses(rt, misses.alone, misses.preempted),
+        Err(refusal) => desk::print_refusal(rt, refusal),
     }
 }
 
 fn main(rt: HostRuntime) -> io::Result<()> {
     let mut points = [0u16; 64];
-    let Decimal::Number(count) = desk::read_points(&rt, &mut points) else {
+    let Some(count) = desk::read_points(&rt, &mut points) else {
         return desk::print_usage(
             &rt,
             b"replay POINT.. < FILE   POINT: an edge, 1 to N - 1, each above the one before; FILE: a task file of N basic blocks",

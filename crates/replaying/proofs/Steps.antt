@@ -1,6 +1,7 @@
 -- The walk's state: what the lines hold alone and since when, and both counts. The count with the points is ahead of the other by the lines that the
 -- regions passed have loaded, and those that the region from the last point has loaded so far. And the points that are left, which are read
 -- in step with the edges. Assumes nothing.
+use Rattle.std.specs.Prelude.{None, Some}
 use Prim.Native.Nat.{ℕ, suc, ◌+◌, ◌≤◌, ◌<◌}
 use mathlib.Core.Path.{◌≡◌, refl, sym, ap, ◌∙◌}
 use mathlib.Core.Bool.{Bool, true, false, not, cond, ◌&&◌, and-true, and-false, and-eq-true_iff}
@@ -22,7 +23,6 @@ use Rattle.model.specs.Regions.{region_lines, lines}
 use Rattle.model.specs.Replay.{empty_cache, misses, misses_alone, misses_with}
 use Rattle.model.specs.declared.Line.{Line}
 use Rattle.model.specs.declared.Line.TheVariants.{Empty, Held}
-use Rattle.model.specs.declared.Mapping.TheVariants.{Uncached, Cached}
 use Rattle.model.proofs.Histories.{reads_before, lies-cached, lies-uncached, History, history-none, history-more}
 use Rattle.model.proofs.Loads.{loaded_by, loaded-none, loaded-all, loaded-more}
 use Rattle.model.proofs.ReadOrder.{all_reads, edge, edge-end}
@@ -64,7 +64,7 @@ module _ (t : Task) (ps : List ℕ) where
   module _ {i j alone preempted : ℕ} {passed : Passed} {held : List Line} {since : List ℕ} (m : ℕ) (hi : i < block_count t) (hj : j < length (block_at t i).reads)
       (is : get_or (block_at t i).reads j 0 ≡ m) (before : passed.last ≤ i) (w : Replayed (edge t i + j) passed held since alone preempted) where
     -- on no line
-    pub read-skip : line_of t m ≡ Uncached → Replayed (suc (edge t i + j)) passed held since alone preempted
+    pub read-skip : line_of t m ≡ None → Replayed (suc (edge t i + j)) passed held since alone preempted
     read-skip at =
         record {
           long-held = w.long-held;
@@ -75,7 +75,7 @@ module _ (t : Task) (ps : List ℕ) where
         }
 
     -- on this line; x and y are its misses
-    pub read_more : (line k x y : ℕ) → line < 512 → line_of t m ≡ Cached line → k ≡ suc i → x ≡ bit (not (same_block (get_or held line Empty) (Held m)))
+    pub read_more : (line k x y : ℕ) → line < 512 → line_of t m ≡ Some line → k ≡ suc i → x ≡ bit (not (same_block (get_or held line Empty) (Held m)))
         → y ≡ bit (not (same_block (cond (evicted t line && leb (get_or since line 0) passed.last) Empty (get_or held line Empty)) (Held m)))
         → Replayed (suc (edge t i + j)) passed (set held line (Held m)) (set since line k) (alone + x) (preempted + y)
     read_more line k x y hl at ek ex ey =

@@ -3,15 +3,13 @@
 use Rattle.std.specs.Prelude.{ℕ, List}
 use Rattle.model.specs.Task.{block_count}
 use Rattle.model.specs.Lists.{wrong_point}
-use Rattle.model.specs.Answers.{on_accepted, refused_at, and_then}
+use Rattle.model.specs.Answers.{accept, Verdict, on_accepted, refused_at, and_then}
 use Rattle.model.specs.Replay.{misses_alone, misses_with}
 use Rattle.model.specs.declared.Refusal.TheVariants.{Argument}
-use Rattle.model.specs.declared.Verdict.{Verdict}
-use Rattle.model.specs.declared.Verdict.TheVariants.{Accepted}
 use Rattle.taskfile.specs.File.{verdict, task_of}
 
 unfoldable pub replay_verdict : List ℕ → List ℕ → Verdict
-replay_verdict file ps = and_then (verdict file) (refused_at (wrong_point (block_count (task_of file)) ps) Argument Accepted)
+replay_verdict file ps = and_then (verdict file) (refused_at (wrong_point (block_count (task_of file)) ps) Argument accept)
 
 -- the first count: the reads that miss with no point
 unfoldable pub misses_alone_of : List ℕ → List ℕ → ℕ

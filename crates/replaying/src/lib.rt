@@ -2,6 +2,7 @@
 #![tactic(auto)]
 
 ghost use Rattle.std.specs.Prelude.{not, cond, ◌&&◌, ◌≡◌, ◌+◌, ◌≤◌, eqb, leb, get_or};
+ghost use Rattle.model.specs.Answers.{accept};
 ghost use Rattle.model.specs.Sets.{bit};
 ghost use Rattle.model.specs.Task.{block_count};
 ghost use Rattle.model.specs.Lines.{same_block};
@@ -10,12 +11,12 @@ ghost use Rattle.model.specs.Replay.{misses_alone, misses_with};
 ghost use Rattle.taskfile.specs.File.{IsAccepted, task_of};
 ghost use Rattle.replaying.specs.Calls.{replay_verdict, misses_alone_of, misses_with_of};
 
-use model::{Line, Mapping, Place, Refusal, Verdict};
+use model::{Line, Refusal};
 
 // What a replay answers: how many reads miss alone and how many with the points, or zeros with a refusal.
 #[derive(Clone, Copy)]
 pub struct Misses {
-    pub verdict: Verdict,
+    pub verdict: Result<(), Refusal>,
     pub alone: u32,
     pub preempted: u32,
 }
@@ -34,17 +35,17 @@ pub fn replay(file: &[u8], points: &[u16]) -> Misses
     ensures preempted_value { result.preempted ≡ misses_with_of file.now points.now }
 {
     let checked = taskfile::check(file);
-    let Verdict::Accepted = checked else {
+    let Ok(()) = checked else {
         return no_misses(checked);
     };
     match pointlist::wrong_point(points, taskfile::block_count(file)) {
-        Place::At(i) => no_misses(Verdict::Refused(Refusal::Argument(i))),
-        Place::Nowhere => count_misses(file, points),
+        Some(i) => no_misses(Err(Refusal::Argument(i))),
+        None => count_misses(file, points),
     }
 }
 
 // What is answered of a replay that is refused.
-fn no_misses(verdict: Verdict) -> Misses
+fn no_misses(verdict: Result<(), Refusal>) -> Misses
     ensures { result ≡ record { verdict = verdict; alone = 0; preempted = 0 } }
 {
     Misses {
@@ -57,8 +58,8 @@ fn no_misses(verdict: Verdict) -> Misses
 // Both counts in one walk over the reads: what each line holds alone, and the block that read it last. With the points a line of H has lost
 // what it holds if no block has read it since the last point.
 fn count_misses(file: &[u8], points: &[u16]) -> Misses
-    requires { IsAccepted file.now × (wrong_point (block_count (task_of file.now)) points.now ≡ Place.Nowhere) }
-    ensures { result ≡ record { verdict = Verdict.Accepted; alone = misses_alone (task_of file.now); preempted = misses_with (task_of file.now) points.now } }
+    requires { IsAccepted file.now × (wrong_point (block_count (task_of file.now)) points.now ≡ None) }
+    ensures { result ≡ record { verdict = accept; alone = misses_alone (task_of file.now); preempted = misses_with (task_of file.now) points.now } }
 {
     let cache = cacheline::geometry_of(file);
     let blocks = taskfile::block_count(file);
@@ -78,8 +79,8 @@ fn count_misses(file: &[u8], points: &[u16]) -> Misses
         while j < reads {
             let number = taskfile::read(file, k, j);
             match cache.line_of(number) {
-                Mapping::Uncached => {}
-                Mapping::Cached(c) => {
+                None => {}
+                Some(c) => {
                     let line = held[c];
                     let lost = is_lost(evicted[c], since[c], last);
                     alone += missed(line, number, false);
@@ -94,7 +95,7 @@ fn count_misses(file: &[u8], points: &[u16]) -> Misses
         i += 1;
     }
     Misses {
-        verdict: Verdict::Accepted,
+        verdict: Ok(()),
         alone,
         preempted,
     }

@@ -6,7 +6,6 @@ ghost use Rattle.model.specs.Task.{block_count};
 ghost use Rattle.model.specs.Lists.{wrong_point};
 ghost use Rattle.taskfile.specs.File.{IsAccepted, task_of};
 
-use model::Place;
 use std::io;
 
 // The region from edge a to edge b.
@@ -19,7 +18,7 @@ fn print_region(rt: &impl Print, a: usize, b: usize, length: u64) -> io::Result<
 
 // The regions that points cut an accepted file's task into.
 fn print_regions(rt: &impl Print, file: &[u8], points: &[u16]) -> io::Result<()>
-    requires { IsAccepted file.now × (wrong_point (block_count (task_of file.now)) points.now ≡ Place.Nowhere) }
+    requires { IsAccepted file.now × (wrong_point (block_count (task_of file.now)) points.now ≡ None) }
 {
     let n = taskfile::block_count(file);
     let mut lines = [0u32; 64];
@@ -50,7 +49,7 @@ pub fn print_list(
     lines: u64,
     cost: u64,
 ) -> io::Result<()>
-    requires { IsAccepted file.now × (wrong_point (block_count (task_of file.now)) points.now ≡ Place.Nowhere) }
+    requires { IsAccepted file.now × (wrong_point (block_count (task_of file.now)) points.now ≡ None) }
 {
     desk::print_field(rt, b"task ", id as u64)?;
     desk::print_field(rt, b" blocks ", n as u64)?;

@@ -1,5 +1,6 @@
 -- First reads as they are noted, read after read and block after block: what some reads do to the arrays, and others after them, is what all of
 -- them do. Assumes nothing.
+use Rattle.std.specs.Prelude.{Option}
 use Prim.Native.Nat.{ℕ, suc, ◌+◌, ◌-◌, ◌≤◌, ◌<◌}
 use mathlib.Core.Path.{◌≡◌, refl, sym, ap, ◌∙◌}
 use mathlib.Core.Bool.{Bool, true, false, not, cond, ◌&&◌, ◌||◌, or-false, or_assoc, and-false}
@@ -15,7 +16,6 @@ use Rattle.model.specs.Lines.{line_of, is_line, on_line, first_read, any_read, r
 use Rattle.model.specs.Regions.{union_after}
 use Rattle.model.specs.declared.Line.{Line}
 use Rattle.model.specs.declared.Line.TheVariants.{Empty, Held}
-use Rattle.model.specs.declared.Mapping.{Mapping}
 use Rattle.model.proofs.LineStates.{any_append, first-append}
 use Rattle.model.proofs.ReadOrder.{reads-append}
 use Rattle.model.proofs.Loads.{union-reads}
@@ -44,7 +44,7 @@ module _ (t : Task) where
       go false l = refl
 
   -- one read, of m: it is noted on its line if that was not read before
-  pub noted_one : {read₀ read : List Bool} {first₀ first : List ℕ} (m : ℕ) (mapping : Mapping) → mapping ≡ line_of t m → length read ≡ 512 → length first ≡ 512
+  pub noted_one : {read₀ read : List Bool} {first₀ first : List ℕ} (m : ℕ) (mapping : Option ℕ) → mapping ≡ line_of t m → length read ≡ 512 → length first ≡ 512
       → ((c : ℕ) → get_or read c false ≡ (get_or read₀ c false || is_line c mapping))
       → ((c : ℕ) → get_or first c 0 ≡ cond (not (get_or read₀ c false) && is_line c mapping) m (get_or first₀ c 0))
       → Noted t (m ∷ []) read₀ first₀ read first (λ c. not (get_or read₀ c false) && is_line c mapping)

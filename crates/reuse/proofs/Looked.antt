@@ -1,5 +1,6 @@
 -- A search over reads in order: what is left of it once some reads are passed. The first read on the line among all is the first among those
 -- left, and as many are looked at as were passed and are looked at there. Assumes nothing.
+use Rattle.std.specs.Prelude.{None, Some}
 use Prim.Native.Nat.{ℕ, suc, ◌+◌, ◌<◌}
 use mathlib.Core.Path.{◌≡◌, refl, sym, ap, ◌∙◌}
 use mathlib.Core.Bool.{Bool, true, false, cond}
@@ -13,18 +14,17 @@ use lib.Seq.{drop-cons}
 use Rattle.model.specs.Lines.{first_read, looked_at, same_block, as_next}
 use Rattle.model.specs.declared.Line.{Line}
 use Rattle.model.specs.declared.Line.TheVariants.{Empty, Held}
-use Rattle.model.specs.declared.Next.TheVariants.{Read, Never}
 
-not-both : {m : ℕ} → Read m ≡ Never → ⊥
+not-both : {m : ℕ} → Some m ≡ None → ⊥
 not-both e = let z : ◌≡◌ {A = ℕ} 0 1 = cc in omega arith
 
 -- what the search's answer says of a line that holds this number
 
-pub never-same : (number : ℕ) (l : Line) → as_next l ≡ Never → same_block (Held number) l ≡ false
+pub never-same : (number : ℕ) (l : Line) → as_next l ≡ None → same_block (Held number) l ≡ false
 never-same number Empty e = refl
 never-same number (Held n) e = absurd (not-both e)
 
-pub read_same : (number m : ℕ) (l : Line) → as_next l ≡ Read m → same_block (Held number) l ≡ eqb number m
+pub read_same : (number m : ℕ) (l : Line) → as_next l ≡ Some m → same_block (Held number) l ≡ eqb number m
 read_same number m Empty e = absurd (not-both (sym e))
 read_same number m (Held n) e = let same : n ≡ m = cc in ap (eqb number) same
 
@@ -38,42 +38,42 @@ module _ (on : ℕ → Bool) where
   left-all all = record { next = refl; count = sym (zero-add _) }
 
   -- some reads more, none of them on the line
-  passed : (xs ys : List ℕ) → as_next (first_read on xs) ≡ Never
+  passed : (xs ys : List ℕ) → as_next (first_read on xs) ≡ None
       → (first_read on (xs ++ ys) ≡ first_read on ys) × (looked_at on (xs ++ ys) ≡ looked_at on xs + looked_at on ys)
   unfolding first_read looked_at
   passed [] ys h = (refl, sym (zero-add _))
   passed (x ∷ xs) ys h = go (on x) h (passed xs ys)
     where
-      go : (b : Bool) → as_next (cond b (Held x) (first_read on xs)) ≡ Never
-          → (as_next (first_read on xs) ≡ Never → (first_read on (xs ++ ys) ≡ first_read on ys) × (looked_at on (xs ++ ys) ≡ looked_at on xs + looked_at on ys))
+      go : (b : Bool) → as_next (cond b (Held x) (first_read on xs)) ≡ None
+          → (as_next (first_read on xs) ≡ None → (first_read on (xs ++ ys) ≡ first_read on ys) × (looked_at on (xs ++ ys) ≡ looked_at on xs + looked_at on ys))
           → (cond b (Held x) (first_read on (xs ++ ys)) ≡ first_read on ys)
           × (suc (cond b 0 (looked_at on (xs ++ ys))) ≡ suc (cond b 0 (looked_at on xs)) + looked_at on ys)
       go true e more = absurd (not-both e)
       go false e more = ((more e).0, omega (arith, (more e).1))
 
   -- some reads more, one of them on the line
-  found : (xs ys : List ℕ) (m : ℕ) → as_next (first_read on xs) ≡ Read m
-      → (as_next (first_read on (xs ++ ys)) ≡ Read m) × (looked_at on (xs ++ ys) ≡ looked_at on xs)
+  found : (xs ys : List ℕ) (m : ℕ) → as_next (first_read on xs) ≡ Some m
+      → (as_next (first_read on (xs ++ ys)) ≡ Some m) × (looked_at on (xs ++ ys) ≡ looked_at on xs)
   unfolding first_read looked_at
   found [] ys m h = absurd (not-both (sym h))
   found (x ∷ xs) ys m h = go (on x) h (found xs ys m)
     where
-      go : (b : Bool) → as_next (cond b (Held x) (first_read on xs)) ≡ Read m
-          → (as_next (first_read on xs) ≡ Read m → (as_next (first_read on (xs ++ ys)) ≡ Read m) × (looked_at on (xs ++ ys) ≡ looked_at on xs))
-          → (as_next (cond b (Held x) (first_read on (xs ++ ys))) ≡ Read m)
+      go : (b : Bool) → as_next (cond b (Held x) (first_read on xs)) ≡ Some m
+          → (as_next (first_read on xs) ≡ Some m → (as_next (first_read on (xs ++ ys)) ≡ Some m) × (looked_at on (xs ++ ys) ≡ looked_at on xs))
+          → (as_next (cond b (Held x) (first_read on (xs ++ ys))) ≡ Some m)
           × (suc (cond b 0 (looked_at on (xs ++ ys))) ≡ suc (cond b 0 (looked_at on xs)))
       go true e more = (e, refl)
       go false e more = ((more e).0, ap suc (more e).1)
 
   module _ {all rest : List ℕ} {looked : ℕ} (left : Left all looked rest) (xs ys : List ℕ) (e : rest ≡ xs ++ ys) where
-    pub left_passed : as_next (first_read on xs) ≡ Never → Left all (looked + looked_at on xs) ys
+    pub left_passed : as_next (first_read on xs) ≡ None → Left all (looked + looked_at on xs) ys
     left_passed n =
         record {
           next = left.next ∙ ap (first_read on) e ∙ (passed xs ys n).0;
           count = omega (arith, left.count, ap (looked_at on) e, (passed xs ys n).1);
         }
 
-    pub left-found : (m : ℕ) → as_next (first_read on xs) ≡ Read m → (as_next (first_read on all) ≡ Read m) × (looked_at on all ≡ looked + looked_at on xs)
+    pub left-found : (m : ℕ) → as_next (first_read on xs) ≡ Some m → (as_next (first_read on all) ≡ Some m) × (looked_at on all ≡ looked + looked_at on xs)
     left-found m n = (
       ap as_next (left.next ∙ ap (first_read on) e) ∙ (found xs ys m n).0,
       omega (arith, left.count, ap (looked_at on) e, (found xs ys m n).1),
@@ -95,13 +95,13 @@ module _ (on : ℕ → Bool) where
         let more = left_passed left (m ∷ []) (drop (j + 1) xs) next_one (rw h refl) in
         record { next = more.next; count = more.count ∙ rw (looks-one false h) refl }
 
-    pub left-on : on m ≡ true → (as_next (first_read on all) ≡ Read m) × (looked_at on all ≡ looked + 1)
+    pub left-on : on m ≡ true → (as_next (first_read on all) ≡ Some m) × (looked_at on all ≡ looked + 1)
     unfolding first_read
     left-on h =
         let more = left-found left (m ∷ []) (drop (j + 1) xs) next_one m (rw h refl) in
         (more.0, more.1 ∙ rw (looks-one true h) refl)
 
   -- no read is left
-  pub left-none : {all rest : List ℕ} {looked : ℕ} → rest ≡ [] → Left all looked rest → (as_next (first_read on all) ≡ Never) × (looked_at on all ≡ looked)
+  pub left-none : {all rest : List ℕ} {looked : ℕ} → rest ≡ [] → Left all looked rest → (as_next (first_read on all) ≡ None) × (looked_at on all ≡ looked)
   unfolding first_read looked_at
   left-none e l = (ap as_next (l.next ∙ ap (first_read on) e), omega (arith, l.count, ap (looked_at on) e))

@@ -1,13 +1,11 @@
 -- What arrays of 512 entries say of a cache's lines. Assumes nothing.
-use Rattle.std.specs.Prelude.{ℕ, zero, suc, ◌-◌, ◌≤◌, ◌<◌, ◌≡◌, Bool, false, cond, ◌&&◌, ◌||◌, List, eqb, length, get_or}
+use Rattle.std.specs.Prelude.{ℕ, zero, suc, ◌-◌, ◌≤◌, ◌<◌, ◌≡◌, Bool, false, cond, ◌&&◌, ◌||◌, List, eqb, length, get_or, None, Option, Some}
 use Rattle.model.specs.Sets.{Lines}
 use Rattle.model.specs.Task.{Task, block_count}
 use Rattle.model.specs.Lines.{state_after, accessed}
 use Rattle.model.specs.Charges.{first_touching}
 use Rattle.model.specs.declared.Line.{Line}
 use Rattle.model.specs.declared.Line.TheVariants.{Empty}
-use Rattle.model.specs.declared.Place.{Place}
-use Rattle.model.specs.declared.Place.TheVariants.{Nowhere, At}
 
 -- what each line holds after basic blocks 1 to k
 abbrev pub HeldAfter : Task → ℕ → List Line → Type 0
@@ -22,9 +20,9 @@ abbrev pub MarkedBy : Lines → ℕ → List ℕ → List ℕ → Type 0
 MarkedBy s n before after = (d : ℕ) → d < 512 → get_or after d 0 ≡ cond (s d) n (get_or before d 0)
 
 -- a place as a mark of eight bits: 32 is none
-abbrev pub mark_of : Place → ℕ
-mark_of Nowhere = 32
-mark_of (At i) = i
+abbrev pub mark_of : Option ℕ → ℕ
+mark_of None = 32
+mark_of (Some i) = i
 
 -- the first preempter that touches each line
 abbrev pub FirstMarks : Task → List ℕ → Type 0

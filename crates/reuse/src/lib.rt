@@ -17,12 +17,12 @@ ghost use Rattle.reuse.specs.FirstReads.{first_in, Noted};
 
 use cacheline::Geometry;
 use lineset::LineSet;
-use model::{Line, Mapping, Next};
+use model::Line;
 
 // What a search for the next read of a line finds, and how many reads it looked at.
 #[derive(Clone, Copy)]
 pub struct Search {
-    pub next: Next,
+    pub next: Option<u32>,
     pub looked: usize,
 }
 
@@ -55,13 +55,13 @@ fn search_from(file: &[u8], cache: Geometry, k: usize, c: usize) -> Search
         let found = search_block(file, cache, i + 1, c);
         let next = found.next;
         looked += found.looked;
-        let Next::Never = next else {
+        let None = next else {
             return Search { next, looked };
         };
         i += 1;
     }
     Search {
-        next: Next::Never,
+        next: None,
         looked,
     }
 }
@@ -82,7 +82,7 @@ fn search_block(file: &[u8], cache: Geometry, k: usize, c: usize) -> Search
         if cache.lies_on(number, c) {
             let looked = at + 1;
             return Search {
-                next: Next::Read(number),
+                next: Some(number),
                 looked,
             };
         }
@@ -90,7 +90,7 @@ fn search_block(file: &[u8], cache: Geometry, k: usize, c: usize) -> Search
         if cache.lies_on(second, c) {
             let looked = at + 2;
             return Search {
-                next: Next::Read(second),
+                next: Some(second),
                 looked,
             };
         }
@@ -100,13 +100,13 @@ fn search_block(file: &[u8], cache: Geometry, k: usize, c: usize) -> Search
         let last = taskfile::read(file, k, reads - 1);
         if cache.lies_on(last, c) {
             return Search {
-                next: Next::Read(last),
+                next: Some(last),
                 looked: reads,
             };
         }
     }
     Search {
-        next: Next::Never,
+        next: None,
         looked: reads,
     }
 }
@@ -193,14 +193,14 @@ fn note_block(readers: &mut [u8; 512], file: &[u8], cache: Geometry, k: usize)
 }
 
 // Notes a block as the first reader of a line, if there is one and it has none.
-fn note_reader(readers: &mut [u8; 512], mapping: Mapping, by: u8)
+fn note_reader(readers: &mut [u8; 512], mapping: Option<usize>, by: u8)
     requires { (length readers.old ≡ 512) × WithinCache mapping }
     ensures readers_len { length readers.new ≡ 512 }
     ensures first_by { FirstBy (λ d. is_line d mapping) by readers.old readers.new }
 {
     match mapping {
-        Mapping::Uncached => {}
-        Mapping::Cached(c) => readers[c] = first_reader(readers[c], by),
+        None => {}
+        Some(c) => readers[c] = first_reader(readers[c], by),
     }
 }
 
@@ -287,7 +287,7 @@ fn note(
     read: &mut [bool; 512],
     first: &mut [u32; 512],
     lines: LineSet,
-    mapping: Mapping,
+    mapping: Option<usize>,
     number: u32,
 ) -> LineSet
     requires { (length read.old ≡ 512) × (length first.old ≡ 512) × WithinCache mapping }
@@ -297,8 +297,8 @@ fn note(
     ensures by_index_3 { (c : ℕ) → members result c ≡ (members lines c || not (get_or read.old c false) && is_line c mapping) }
 {
     match mapping {
-        Mapping::Uncached => lines,
-        Mapping::Cached(c) => {
+        None => lines,
+        Some(c) => {
             if read[c] {
                 return lines;
             }
@@ -338,8 +338,8 @@ fn held_after(file: &[u8], cache: Geometry, k: usize) -> [Line; 512]
         while j < reads {
             let number = taskfile::read(file, b, j);
             match cache.line_of(number) {
-                Mapping::Uncached => {}
-                Mapping::Cached(c) => {
+                None => {}
+                Some(c) => {
                     held[c] = Line::Held(number);
                 }
             }
@@ -380,8 +380,8 @@ fn is_next(file: &[u8], cache: Geometry, k: usize, c: usize, number: u32) -> boo
     let found = search_from(file, cache, k, c);
     let next = found.next;
     match next {
-        Next::Never => false,
-        Next::Read(m) => number == m,
+        None => false,
+        Some(m) => number == m,
     }
 }
 

@@ -13,9 +13,8 @@ use Rattle.model.specs.Lines.{bypasses, line_of, on_line, last_read, first_read,
 use Rattle.model.specs.Lists.{steps, regions, total, lowest, lowest_from}
 use Rattle.model.specs.Regions.{union_after, time_after, loaded, region_lines, switch_ticks, region_cost, region_length, armed_after, region_fits}
 use Rattle.model.specs.Charges.{touches, first_touching, charged_to, region_charge, charge, charges}
-use Rattle.model.specs.Answers.{pricing}
+use Rattle.model.specs.Answers.{accept, pricing}
 use Rattle.model.specs.Cases.{seven_with}
-use Rattle.model.specs.declared.Verdict.TheVariants.{Accepted}
 use Rattle.block.specs.Bytes.{Each}
 use Rattle.taskfile.specs.File.{task_of, header_numbers, file_of, counts_in_range, scratch_in_range, header_in_range, IsAccepted, EntryWithin, Within}
 use Rattle.taskfile.proofs.Tasks.{file-then-task}
@@ -61,12 +60,12 @@ points = 1 ∷ 2 ∷ 3 ∷ []
 made : (m n : ℕ) → m < 2 ^ 32 → n < 2 ^ 32 → IsAccepted (file_of (seven m n)) × (task_of (file_of (seven m n)) ≡ seven m n)
 made m n h l = file-then-task (seven m n) (within m n h l)
 
-charged : (m n : ℕ) (h : m < 2 ^ 32) (l : n < 2 ^ 32) → pricing (seven m n) points ≡ Accepted
-    → (price_verdict (file_of (seven m n)) points ≡ Accepted) × (price_charges (file_of (seven m n)) points ≡ charges (seven m n) points)
+charged : (m n : ℕ) (h : m < 2 ^ 32) (l : n < 2 ^ 32) → pricing (seven m n) points ≡ accept
+    → (price_verdict (file_of (seven m n)) points ≡ accept) × (price_charges (file_of (seven m n)) points ≡ charges (seven m n) points)
 unfolding price_verdict price_charges
 charged m n h l e = rw ((made m n h l).0, (made m n h l).1, e) (refl, refl)
 
-fit : (pricing (seven 4 1) points ≡ Accepted) × (pricing (seven 1 4) points ≡ Accepted)
+fit : (pricing (seven 4 1) points ≡ accept) × (pricing (seven 1 4) points ≡ accept)
 unfolding steps regions lowest total loaded useful state_after next_read last_read first_read reads_of on_line line_of bypasses evicted any_read preempter_reads union_after accessed block_at count_below listed region_lines switch_ticks region_cost region_length time_after armed_after region_fits
 fit = (refl, refl)
 

@@ -1,17 +1,16 @@
 -- Each call answers alike on both files: both are accepted, and what else an answer is made of is the same of their tasks.
 -- Assumes nothing.
+use Rattle.std.specs.Prelude.{Err}
 use Prim.Native.Nat.{ℕ}
 use mathlib.Core.Path.{◌≡◌, sym, ◌∙◌, fun_ext}
 use mathlib.Core.Logic.{◌⊎◌, inl, inr}
 use mathlib.Core.List.{List}
 use Rattle.model.specs.Task.{Task}
 use Rattle.model.specs.Regions.{FirstBest, NoPlacementFits}
-use Rattle.model.specs.Answers.{pricing}
+use Rattle.model.specs.Answers.{Verdict, pricing}
 use Rattle.model.specs.Planning.{plan_for, Planned}
 use Rattle.model.specs.declared.Plan.{Plan}
 use Rattle.model.specs.declared.Refusal.TheVariants.{NoPlacement}
-use Rattle.model.specs.declared.Verdict.{Verdict}
-use Rattle.model.specs.declared.Verdict.TheVariants.{Refused}
 use Rattle.model.proofs.Seen.{SeenAlike}
 use Rattle.model.proofs.Verdicts.{never_both}
 use Rattle.taskfile.specs.File.{verdict, task_of}
@@ -170,8 +169,8 @@ pub plan-call-alike : PlanCallAlike
 plan-call-alike file other s block r left call =
     record { refused = λ x e. call.refused x (rw (verdict-alike file other s) e); planned = λ e. go (call.planned (rw (verdict-alike file other s) e)) }
   where
-    go : (NoPlacementFits (task_of file) × (r ≡ returned (Refused NoPlacement) 0) × (left ≡ block)) ⊎ (StoredBest (task_of file) left × (r ≡ 0))
-        → (NoPlacementFits (task_of other) × (r ≡ returned (Refused NoPlacement) 0) × (left ≡ block)) ⊎ (StoredBest (task_of other) left × (r ≡ 0))
+    go : (NoPlacementFits (task_of file) × (r ≡ returned (Err NoPlacement) 0) × (left ≡ block)) ⊎ (StoredBest (task_of file) left × (r ≡ 0))
+        → (NoPlacementFits (task_of other) × (r ≡ returned (Err NoPlacement) 0) × (left ≡ block)) ⊎ (StoredBest (task_of other) left × (r ≡ 0))
     go (inl none) = inl (none_alike _ _ (tasks file other s) none.0, none.1, none.2)
     go (inr best) =
         inr (

@@ -1,5 +1,6 @@
 -- The charges of both files are equal: a line's first preempter is found from the lines that each touches and from M, and whether a line is of H
 -- from its first preempter. Assumes nothing.
+use Rattle.std.specs.Prelude.{None, Option, Some}
 use Prim.Native.Nat.{ℕ}
 use mathlib.Core.Path.{◌≡◌, refl, sym, ap, ◌∙◌, fun_ext}
 use mathlib.Core.Bool.{Bool, true, false, not}
@@ -9,8 +10,6 @@ use mathlib.Core.List.{List}
 use Rattle.model.specs.Task.{Task, preempter_count}
 use Rattle.model.specs.Lines.{evicted}
 use Rattle.model.specs.Charges.{touches, first_touching, charged_to, region_charge, charge, charges}
-use Rattle.model.specs.declared.Place.{Place}
-use Rattle.model.specs.declared.Place.TheVariants.{Nowhere, At}
 use Rattle.model.proofs.Charges.{FirstOf, first_of}
 use Rattle.model.proofs.Seen.{SeenAlike}
 use Rattle.taskfile.specs.File.{Counts, task_of}
@@ -21,9 +20,9 @@ use Rattle.samelines.specs.Statements.{EachTogether, PriceChargesAlike, PlanChar
 use Rattle.samelines.proofs.Tasks.{counts-agree, tasks-alike}
 use Rattle.samelines.proofs.Calls.{price-alike, plans-equal}
 
-somewhere : Place → Bool
-somewhere Nowhere = false
-somewhere (At i) = true
+somewhere : Option ℕ → Bool
+somewhere None = false
+somewhere (Some i) = true
 
 -- a line is of H where it has a first preempter
 evicted-is : (t : Task) (c : ℕ) → evicted t c ≡ somewhere (first_touching t c)

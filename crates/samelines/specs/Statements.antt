@@ -6,8 +6,7 @@ use Rattle.std.specs.Prelude.{ℕ, ◌≡◌, List, length}
 use Rattle.model.specs.Task.{Preempter, with_preempters}
 use Rattle.model.specs.Lines.{evicted}
 use Rattle.model.specs.declared.Plan.{Plan}
-use Rattle.model.specs.declared.Verdict.{Verdict}
-use Rattle.model.specs.declared.Verdict.TheVariants.{Accepted}
+use Rattle.model.specs.Answers.{accept, Verdict}
 use Rattle.block.specs.Bytes.{Each}
 use Rattle.taskfile.specs.File.{task_of, file_of, IsAccepted, EntryWithin}
 use Rattle.planner.specs.Calls.{edge_verdict, useful_words, next_read_of, looked_of, region_verdict, loaded_words, length_of, price_verdict, price_lines, price_cost, price_charges, block_verdict, block_place, block_plan, PlanAnswer, plan_charges}
@@ -94,5 +93,5 @@ pub record ChargesApart : Type 0 where
   pub other : List ℕ
   pub points : List ℕ
   pub same_lines : SameLines file other
-  pub priced : price_verdict file points ≡ Accepted
+  pub priced : price_verdict file points ≡ accept
   pub apart : price_charges file points ≡ price_charges other points → ⊥

@@ -1,7 +1,6 @@
 // Prints the text of the task file on standard input, or the refusal.
 #![tactic(auto)]
 
-use model::Verdict;
 use std::io;
 
 fn main(rt: HostRuntime) -> io::Result<()> {
@@ -17,7 +16,7 @@ fn main(rt: HostRuntime) -> io::Result<()> {
     let shown = showing::show(&file[..n], &mut text);
     let verdict = shown.verdict;
     match verdict {
-        Verdict::Accepted => desk::print_page(&rt, &text, shown.length),
-        Verdict::Refused(refusal) => desk::print_refusal(&rt, refusal),
+        Ok(()) => desk::print_page(&rt, &text, shown.length),
+        Err(refusal) => desk::print_refusal(&rt, refusal),
     }
 }

@@ -11,14 +11,7 @@ ghost use Rattle.showing.specs.Text.{space, scratch_word, spaced, line_text, hea
 ghost use Rattle.showing.specs.Puts.{Room, Put, limits_text};
 ghost use Rattle.showing.specs.Calls.{shown_text, room_row, show_answer, show_output};
 
-use model::{Header, Refusal, Scratch, Verdict};
-
-// What is answered: the verdict, and the length of the text.
-#[derive(Clone, Copy)]
-pub struct Shown {
-    pub verdict: Verdict,
-    pub length: usize,
-}
+use model::{Header, Refusal, Scratch};
 
 // The functions below put a text into an output from a place on, as far as the output goes, and answer the place behind the text.
 
@@ -224,35 +217,24 @@ fn has_room(file: &[u8], room: usize) -> bool
     text_length(file) <= room
 }
 
-// The answer to a file and an output of this length: 1 to 5, and 9.
-fn check(file: &[u8], room: usize) -> Verdict
+// Refuses a file, or an output of this length: 1 to 5, and 9.
+fn check(file: &[u8], room: usize) -> Result<(), Refusal>
     ensures { result ≡ and_then (verdict file.now) (room_row (length (shown_text file.now)) room) }
 {
-    let verdict = taskfile::check(file);
-    match verdict {
-        Verdict::Accepted => {
-            if has_room(file, room) {
-                Verdict::Accepted
-            } else {
-                Verdict::Refused(Refusal::Output)
-            }
-        }
-        Verdict::Refused(_) => verdict,
+    taskfile::check(file)?;
+    if has_room(file, room) {
+        Ok(())
+    } else {
+        Err(Refusal::Output)
     }
 }
 
-// Writes the text of a file's task into the output, or refuses it: 1 to 5 for the file, and then 9 where the output is shorter than the text.
-// The output begins with the text, and its bytes past that are as they were; on a refusal all are.
-pub fn show(file: &[u8], out: &mut [u8]) -> Shown
+// Writes the text of a file's task into the output and answers its length, or refuses it: 1 to 5 for the file, and then 9 where the output is
+// shorter than the text. The output begins with the text, and its bytes past that are as they were; on a refusal all are.
+pub fn show(file: &[u8], out: &mut [u8]) -> Result<usize, Refusal>
     ensures value { result ≡ show_answer file.now out.old }
     ensures out_after { out.new ≡ show_output file.now out.old }
 {
-    let verdict = check(file, out.len());
-    match verdict {
-        Verdict::Accepted => {
-            let length = put_text(out, file);
-            Shown { verdict, length }
-        }
-        Verdict::Refused(_) => Shown { verdict, length: 0 },
-    }
+    check(file, out.len())?;
+    Ok(put_text(out, file))
 }

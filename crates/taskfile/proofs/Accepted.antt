@@ -1,5 +1,6 @@
 -- What the answer Accepted says of a file, and the task that an accepted file holds, block by block.
 -- Assumes nothing.
+use Rattle.std.specs.Prelude.{None, Option, Some}
 use Prim.Native.Nat.{ℕ, zero, suc, ◌+◌, ◌*◌, ◌/◌, ◌%◌, ◌<◌, ◌≤◌}
 use mathlib.Core.Path.{◌≡◌, refl, sym, ap}
 use mathlib.Core.Bool.{Bool, true, false, cond, ◌&&◌, and-eq-true_iff}
@@ -12,11 +13,8 @@ use lib.ListN.{length, get_or}
 use borrow.Author.Tests.{eqb-true, leb-true, ltb-true}
 use Rattle.model.specs.Task.{Block, Preempter, Task, block_count, line_count, no_preempter}
 use Rattle.model.specs.Lines.{preempter_reads, block_at}
-use Rattle.model.specs.declared.Place.{Place}
-use Rattle.model.specs.declared.Place.TheVariants.{Nowhere, At}
-use Rattle.model.specs.Answers.{refused_at}
+use Rattle.model.specs.Answers.{accept, refused_at}
 use Rattle.model.specs.declared.Refusal.{Refusal}
-use Rattle.model.specs.declared.Verdict.TheVariants.{Accepted}
 use Rattle.model.proofs.Verdicts.{never_both, both-accepted, row-holds}
 use Rattle.block.specs.Bytes.{field}
 use Rattle.model.specs.Lists.{lowest_from}
@@ -25,9 +23,9 @@ use Rattle.model.proofs.Lowest.{lowest-nowhere}
 use Rattle.taskfile.specs.File.{reads_in, basic_of, preempter_of, block_in, blocks_in, entry_reads, counts, collect, header_of, task_of, sum_right, counts_in_range, header_in_range, header_right, entry_right, block_right, length_right, length_row, checksum_row, header_row, count_row, block_row, verdict}
 
 -- a row accepts where no place is wrong
-row-nowhere : (r : ℕ → Refusal) (p : Place) → refused_at p r Accepted ≡ Accepted → p ≡ Nowhere
-row-nowhere r Nowhere e = refl
-row-nowhere r (At k) e = absurd (never_both (sym e))
+row-nowhere : (r : ℕ → Refusal) (p : Option ℕ) → refused_at p r accept ≡ accept → p ≡ None
+row-nowhere r None e = refl
+row-nowhere r (Some k) e = absurd (never_both (sym e))
 
 -- an accepted file, of 1 + N + M blocks
 pub record AcceptedFile (file : List ℕ) : Type 0 where
@@ -128,7 +126,7 @@ module _ (file : List ℕ) where
   unfolding entry_reads preempter_of
   preempter-reads-at i h = ap (λ (p : Preempter). p.reads) (preempter-at i h)
 
-pub accepted : (file : List ℕ) → verdict file ≡ Accepted → AcceptedFile file
+pub accepted : (file : List ℕ) → verdict file ≡ accept → AcceptedFile file
 unfolding verdict length_row checksum_row header_row count_row block_row header_right block_right entry_right blocks_in
 accepted file e =
     let n : ℕ = (counts file).blocks in
@@ -161,7 +159,7 @@ accepted file e =
     few false count x y h = ((and-eq-true_iff count y).0 h).0
 
 -- an accepted file has at most 64 basic blocks
-pub few-blocks : (file : List ℕ) → verdict file ≡ Accepted → block_count (task_of file) ≤ 64
+pub few-blocks : (file : List ℕ) → verdict file ≡ accept → block_count (task_of file) ≤ 64
 few-blocks file h = omega (arith, block-count file, (accepted file h).blocks-most)
 
 -- the reads of the n blocks from block k, in order

@@ -1,5 +1,6 @@
 -- The bytes of a task within the limits are accepted, and hold that task.
 -- Assumes nothing.
+use Rattle.model.specs.Answers.{accept}
 use Prim.Native.Nat.{ℕ, zero, suc, ◌+◌, ◌-◌, ◌*◌, ◌%◌, ◌<◌, ◌≤◌}
 use mathlib.Core.Path.{◌≡◌, refl, ap, ◌∙◌}
 use mathlib.Core.Bool.{Bool, true, false}
@@ -14,7 +15,6 @@ use lib.Seq.{take_at, drop-append-add, get_or-append-add, ext_get_or}
 use borrow.Author.Tests.{le-leb, lt-leb, lt-ltb, eq-eqb}
 use Rattle.model.specs.Sets.{bit}
 use Rattle.model.specs.Task.{Block, Preempter, Task, block_count, no_block}
-use Rattle.model.specs.declared.Verdict.TheVariants.{Accepted}
 use Rattle.block.specs.Bytes.{Sized, le, packed, field, Each}
 use Rattle.block.specs.Blocks.{numbered, sealed}
 use Rattle.block.proofs.Bytes.{length-les}
@@ -260,7 +260,7 @@ module _ (t : Task) (w : Within t) where
           let e : 1 + block_count t + (k - 1 - block_count t) ≡ k = omega arith in
           rw e at (preempter-right (k - 1 - block_count t) (omega arith))
 
-  accepted-file : verdict (file_of t) ≡ Accepted
+  accepted-file : verdict (file_of t) ≡ accept
   unfolding verdict length_row checksum_row header_row count_row block_row
   accepted-file =
       rw (

@@ -1,14 +1,12 @@
 -- Task files (document 01, "Blocks of 512 bytes" and "Numbers given to the build"): the task of some bytes, the bytes of a task, and the
 -- refusal of any bytes. Assumes nothing.
-use Rattle.std.specs.Prelude.{ℕ, zero, suc, ◌+◌, ◌*◌, ◌/◌, ◌%◌, ◌<◌, ◌≤◌, ◌^◌, ◌≡◌, Bool, true, cond, ◌&&◌, List, [], ◌∷◌, ◌++◌, map, eqb, leb, ltb, length, take, drop}
+use Rattle.std.specs.Prelude.{ℕ, zero, suc, ◌+◌, ◌*◌, ◌/◌, ◌%◌, ◌<◌, ◌≤◌, ◌^◌, ◌≡◌, Bool, true, cond, ◌&&◌, List, [], ◌∷◌, ◌++◌, map, eqb, leb, ltb, length, take, drop, Err}
 use Rattle.model.specs.Task.{Block, Preempter, Task, block_count, line_count}
 use Rattle.model.specs.Sets.{bit}
-use Rattle.model.specs.Answers.{refused_at, and_then}
+use Rattle.model.specs.Answers.{accept, Verdict, refused_at, and_then}
 use Rattle.model.specs.declared.Header.{Header}
 use Rattle.model.specs.declared.Scratch.{Scratch}
 use Rattle.model.specs.declared.Refusal.TheVariants.{Length, Checksum, WrongHeader, BlockCount, WrongBlock}
-use Rattle.model.specs.declared.Verdict.{Verdict}
-use Rattle.model.specs.declared.Verdict.TheVariants.{Accepted, Refused}
 use Rattle.block.specs.Bytes.{Sized, InWidth, packed, les, field, fields, Each}
 use Rattle.model.specs.Lists.{lowest_from}
 use Rattle.block.specs.Blocks.{numbered, sealed, checksum_right, body_right}
@@ -160,23 +158,23 @@ block_right file k =
 
 -- the rows of the table, each as if it stood alone. Refusal 1: a wrong length
 unfoldable pub length_row : List ℕ → Verdict
-length_row file = cond (length_right (length file)) Accepted (Refused Length)
+length_row file = cond (length_right (length file)) accept (Err Length)
 
 -- refusal 2: the lowest block with a wrong checksum
 unfoldable pub checksum_row : List ℕ → Verdict
-checksum_row file = refused_at (lowest_from (sum_right file) 0 (blocks_in file)) Checksum Accepted
+checksum_row file = refused_at (lowest_from (sum_right file) 0 (blocks_in file)) Checksum accept
 
 -- refusal 3: a wrong header
 unfoldable pub header_row : List ℕ → Verdict
-header_row file = cond (header_right file) Accepted (Refused WrongHeader)
+header_row file = cond (header_right file) accept (Err WrongHeader)
 
 -- refusal 4: the file is not 1 + N + M blocks
 unfoldable pub count_row : List ℕ → Verdict
-count_row file = cond (eqb (blocks_in file) (1 + (counts file).blocks + (counts file).preempters)) Accepted (Refused BlockCount)
+count_row file = cond (eqb (blocks_in file) (1 + (counts file).blocks + (counts file).preempters)) accept (Err BlockCount)
 
 -- refusal 5: the lowest wrong block after the header
 unfoldable pub block_row : List ℕ → Verdict
-block_row file = refused_at (lowest_from (block_right file) 1 ((counts file).blocks + (counts file).preempters)) WrongBlock Accepted
+block_row file = refused_at (lowest_from (block_right file) 1 ((counts file).blocks + (counts file).preempters)) WrongBlock accept
 
 -- the answer to any bytes: the refusal of the first row that has one
 unfoldable pub verdict : List ℕ → Verdict
@@ -184,7 +182,7 @@ verdict file = and_then (length_row file) (and_then (checksum_row file) (and_the
 
 -- a file is accepted
 abbrev pub IsAccepted : List ℕ → Type 0
-IsAccepted file = verdict file ≡ Accepted
+IsAccepted file = verdict file ≡ accept
 
 -- what a block can hold: at most 124 reads, and numbers of four bytes
 pub record EntryWithin (x : ℕ) (reads : List ℕ) : Type 0 where

@@ -1,13 +1,11 @@
 -- What is shown of task files beside the contracts: files and tasks determine one another (document 01, "Blocks of 512 bytes"), and zeros in
 -- place of a scratch range change nothing (document 02, item 5).
 -- Assumes nothing.
-use Rattle.std.specs.Prelude.{ℕ, ◌≡◌, cond, ◌&&◌, List, ◌∷◌, ◌++◌, length, take, drop}
+use Rattle.std.specs.Prelude.{ℕ, ◌≡◌, cond, ◌&&◌, List, ◌∷◌, ◌++◌, length, take, drop, Err}
 use Rattle.model.specs.Task.{Task, block_count, line_count}
-use Rattle.model.specs.Answers.{and_then}
+use Rattle.model.specs.Answers.{accept, Verdict, and_then}
 use Rattle.model.specs.Laws.{SeesRemainders}
 use Rattle.model.specs.declared.Refusal.TheVariants.{WrongHeader}
-use Rattle.model.specs.declared.Verdict.{Verdict}
-use Rattle.model.specs.declared.Verdict.TheVariants.{Accepted, Refused}
 use Rattle.block.specs.Bytes.{packed, field}
 use Rattle.block.specs.Blocks.{body_right}
 use Rattle.taskfile.specs.File.{block_in, task_of, task_numbers, file_of, counts_in_range, length_row, checksum_row, count_row, block_row, verdict, IsAccepted, Within}
@@ -31,7 +29,7 @@ verdict_before file =
     let t = task_of file in
     let numbers = take 8 (task_numbers t) ++ ((8, 0) ∷ drop 10 (task_numbers t)) in
     let right = counts_in_range (block_count t) (length t.preempters) (line_count t) && body_right 0 (packed numbers) (block_in file 0) in
-    and_then (length_row file) (and_then (checksum_row file) (and_then (cond right Accepted (Refused WrongHeader)) (and_then (count_row file) (block_row file))))
+    and_then (length_row file) (and_then (checksum_row file) (and_then (cond right accept (Err WrongHeader)) (and_then (count_row file) (block_row file))))
 
 -- a file with zeros in bytes 20 to 27 has the verdict that it had, and all that answers are made of is as it was
 abbrev pub ZerosAsBefore : Type 0

@@ -9,21 +9,22 @@ ghost use Rattle.model.specs.Lines.{block_at};
 ghost use Rattle.taskfile.specs.File.{block_in, counts, basic_of, entry_reads, header_of, task_of, basic_blocks, preempter_blocks, length_right, counts_in_range, scratch_in_range, header_in_range, header_right, entry_right, block_right, checksum_row, header_row, count_row, block_row, IsAccepted, verdict};
 ghost use Rattle.taskfile.specs.Steps.{four_right, LeftToTest};
 
-use model::{Header, Refusal, Scratch, Verdict};
+use model::{Header, Refusal, Scratch};
 
 // Where the header's named bytes end.
 pub const HEADER_END: usize = 36;
 
 // The answer to any bytes.
-pub fn check(file: &[u8]) -> Verdict
+#[tactic(auto, unfolding(crate::specs::File::verdict, crate::specs::File::length_row))]
+pub fn check(file: &[u8]) -> Result<(), Refusal>
     ensures { result ≡ verdict file.now }
 {
     if !length_right(file.len()) {
-        return Verdict::Refused(Refusal::Length);
+        return Err(Refusal::Length);
     }
-    let checksums = check_checksums(file);
-    let header = check_header(file);
-    answers::earlier(checksums, answers::earlier(header, check_blocks(file)))
+    check_checksums(file)?;
+    check_header(file)?;
+    check_blocks(file)
 }
 
 // Whole blocks, from 1 to 97.
@@ -108,30 +109,28 @@ fn left_after_fours(file: &[u8]) -> usize
 }
 
 // Refuses at the lowest block whose checksum is wrong.
-fn check_checksums(file: &[u8]) -> Verdict
+fn check_checksums(file: &[u8]) -> Result<(), Refusal>
     ensures { result ≡ checksum_row file.now }
 {
     let count = file.len() / 512;
-    let mut left = left_after_fours(file);
-    while left != 0 {
-        let k = count - left;
+    let start = count - left_after_fours(file);
+    for k in start..count {
         if !block::checksum_right(block_at(file, k)) {
-            return Verdict::Refused(Refusal::Checksum(k));
+            return Err(Refusal::Checksum(k));
         }
-        left -= 1;
     }
-    Verdict::Accepted
+    Ok(())
 }
 
 // Refuses a wrong header.
-fn check_header(file: &[u8]) -> Verdict
+fn check_header(file: &[u8]) -> Result<(), Refusal>
     requires { 512 ≤ length file.now }
     ensures { result ≡ header_row file.now }
 {
     if header_right(file) {
-        Verdict::Accepted
+        Ok(())
     } else {
-        Verdict::Refused(Refusal::WrongHeader)
+        Err(Refusal::WrongHeader)
     }
 }
 
@@ -208,7 +207,7 @@ pub fn counts_in_range(blocks: u32, preempters: u32, line_count: u32) -> bool
 }
 
 // Refuses a file that has not the blocks that its header counts, or else at its lowest wrong block.
-fn check_blocks(file: &[u8]) -> Verdict
+fn check_blocks(file: &[u8]) -> Result<(), Refusal>
     requires { 512 ≤ length file.now }
     ensures { result ≡ and_then (count_row file.now) (block_row file.now) }
 {
@@ -216,26 +215,23 @@ fn check_blocks(file: &[u8]) -> Verdict
     let preempters = block::u16_at(file, 4);
     let count = blocks as usize + preempters as usize;
     if file.len() / 512 != 1 + count {
-        return Verdict::Refused(Refusal::BlockCount);
+        return Err(Refusal::BlockCount);
     }
     check_entries(file, blocks, count)
 }
 
 // Refuses at the lowest wrong block after the header.
-fn check_entries(file: &[u8], blocks: u16, count: usize) -> Verdict
+fn check_entries(file: &[u8], blocks: u16, count: usize) -> Result<(), Refusal>
     requires blocks_value { (blocks ≡ (counts file.now).blocks) × (count ≡ (counts file.now).blocks + (counts file.now).preempters) }
     requires count_in_bounds { (count * 512 + 512 ≤ length file.now) × (count < 2 ^ 32) }
     ensures { result ≡ block_row file.now }
 {
-    let mut left = count;
-    while left != 0 {
-        let k = count - left + 1;
+    for k in 1..count + 1 {
         if !block_right(file, blocks, k) {
-            return Verdict::Refused(Refusal::WrongBlock(k));
+            return Err(Refusal::WrongBlock(k));
         }
-        left -= 1;
     }
-    Verdict::Accepted
+    Ok(())
 }
 
 // Whether block k is right: the basic blocks come first, and their byte 1 is 0 or 1.

@@ -7,9 +7,8 @@ use mathlib.Core.List.{List, map}
 use native.Mathlib.Nat.{zero-add}
 use native.Mathlib.Omega.{arith}
 use lib.ListN.{length, length-map}
-use Rattle.model.specs.Answers.{output_row}
+use Rattle.model.specs.Answers.{accept, output_row}
 use Rattle.model.specs.declared.Refusal.TheVariants.{OutOfRange}
-use Rattle.model.specs.declared.Verdict.TheVariants.{Accepted}
 use Rattle.model.proofs.Verdicts.{both-accepted, row-holds, output-size}
 use Rattle.block.specs.Bytes.{Each}
 use Rattle.taskfile.specs.File.{header_numbers, basic_bytes, preempter_bytes, counts_in_range, scratch_in_range, header_in_range, file_of, Within}
@@ -53,7 +52,7 @@ task-put seed n m s q r state out basic all new pb es pp e =
     e ∙ task-closed t n m out all (sym counts.0) (sym counts.1) (appended-both 0 bs (map preempter_bytes t.preempters) out basic all pb (rw (behind, es) at pp))
 
 -- of an accepted call the counts are in range, and the buffer has the file's length
-pub accepted-rows : (n m s : ℕ) (out : List ℕ) → generate_verdict n m s out ≡ Accepted
+pub accepted-rows : (n m s : ℕ) (out : List ℕ) → generate_verdict n m s out ≡ accept
     → (counts_in_range n m s ≡ true) × (length out ≡ 512 * (1 + n + m))
 unfolding generate_verdict counts_row
 accepted-rows n m s out e =

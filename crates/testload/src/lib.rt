@@ -9,7 +9,7 @@ ghost use Rattle.testload.specs.Draws as Draws;
 ghost use Rattle.testload.specs.Draws.{next, after, drawn_list, drawn_number, after_reads, drawn_block, after_block, drawn_preempter, drawn_task};
 ghost use Rattle.testload.specs.Calls.{counts_row, generate_verdict, generated};
 
-use model::{Header, Refusal, Scratch, Verdict};
+use model::{Header, Refusal, Scratch};
 
 // A number that was drawn, and the state after it.
 #[derive(Clone, Copy)]
@@ -135,13 +135,13 @@ fn put_task(
 }
 
 // Refuses N, M or S out of its range.
-fn check_counts(blocks: u32, preempters: u32, line_count: u32) -> Verdict
+fn check_counts(blocks: u32, preempters: u32, line_count: u32) -> Result<(), Refusal>
     ensures { result ≡ counts_row blocks preempters line_count }
 {
     if taskfile::counts_in_range(blocks, preempters, line_count) {
-        Verdict::Accepted
+        Ok(())
     } else {
-        Verdict::Refused(Refusal::OutOfRange)
+        Err(Refusal::OutOfRange)
     }
 }
 
@@ -154,7 +154,7 @@ pub fn generate(
     limit: u32,
     reload: u32,
     out: &mut [u8],
-) -> Verdict
+) -> Result<(), Refusal>
     ensures value { result ≡ generate_verdict blocks preempters line_count out.old }
     ensures out_after { out.new ≡ generated seed blocks preempters line_count limit reload out.old }
 {
@@ -163,8 +163,8 @@ pub fn generate(
     let output = answers::check_output(size, out.len());
     let verdict = answers::earlier(counts, output);
     match verdict {
-        Verdict::Accepted => put_task(seed, blocks, preempters, line_count, limit, reload, out),
-        Verdict::Refused(_) => {}
+        Ok(()) => put_task(seed, blocks, preempters, line_count, limit, reload, out),
+        Err(_) => {}
     }
     verdict
 }

@@ -3,7 +3,6 @@
 
 ghost use Rattle.std.specs.Prelude.{◌≤◌};
 
-use model::Verdict;
 use std::io;
 
 // The answer to one case, in a buffer of its length.
@@ -12,11 +11,11 @@ fn print_answer(rt: &impl Print, numbers: [u32; 6], out: &mut [u8]) -> io::Resul
         numbers[0], numbers[1], numbers[2], numbers[3], numbers[4], numbers[5], out,
     );
     match verdict {
-        Verdict::Accepted => {
+        Ok(()) => {
             let hash = fnv::hash(out);
             println!(rt; "{hash:08x}")
         }
-        Verdict::Refused(refusal) => desk::print_refusal(rt, refusal),
+        Err(refusal) => desk::print_refusal(rt, refusal),
     }
 }
 

@@ -2,7 +2,6 @@
 // arguments give a memory block's size, records for each basic block, ticks for each record, S, Q, R and the id.
 #![tactic(auto)]
 
-use model::Verdict;
 use std::io;
 use tracing::{Scan, Settings};
 
@@ -60,8 +59,8 @@ fn write_file(
     let made = scan.finish(addresses, settings, &mut file);
     let verdict = made.verdict;
     match verdict {
-        Verdict::Accepted => desk::print(rt, first(&file, made.length)),
-        Verdict::Refused(refusal) => {
+        Ok(()) => desk::print(rt, first(&file, made.length)),
+        Err(refusal) => {
             desk::report_refusal(rt, refusal, answers::refusal_place(refusal))
         }
     }

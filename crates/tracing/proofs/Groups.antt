@@ -1,6 +1,8 @@
 -- The groups of records that make basic blocks: how many there are, where each begins, how long it is, and whether all times fit. The
 -- first group is as long as any.
 -- Assumes nothing.
+use Rattle.std.specs.Prelude.{Err}
+use Rattle.model.specs.Answers.{accept}
 use Prim.Native.Nat.{ℕ, zero, suc, ◌+◌, ◌-◌, ◌*◌, ◌<◌, ◌≤◌, min}
 use mathlib.Core.Path.{◌≡◌, refl, sym, ap, ◌∙◌}
 use mathlib.Core.Bool.{Bool, true, false, cond, ◌&&◌, and-false, and-eq-true_iff}
@@ -15,7 +17,6 @@ use lib.ListN.{length, take, drop, length-take, length-drop}
 use lib.Seq.{take_all}
 use Rattle.model.specs.Task.{Block}
 use Rattle.model.specs.declared.Refusal.TheVariants.{WrongTrace}
-use Rattle.model.specs.declared.Verdict.TheVariants.{Accepted, Refused}
 use Rattle.model.proofs.Verdicts.{row-holds}
 use Rattle.taskfile.specs.File.{collect}
 use Rattle.tracing.specs.Traces.{blocks_for, traced_block, group_at, traced_blocks}
@@ -81,17 +82,17 @@ module _ (s : Settings) (addresses : List ℕ) where
   time-first : time_at 0 ≡ min (length addresses) s.group * s.ticks
   time-first = ap (λ (n : ℕ). n * s.ticks) (rw (group-length, zero-mul) (omega arith))
 
-  pub none-refused : length addresses ≡ 0 → Refused WrongTrace ≡ records_row s addresses
+  pub none-refused : length addresses ≡ 0 → Err WrongTrace ≡ records_row s addresses
   unfolding records_row
   none-refused e = rw (lt-leb 1 (length addresses) (omega arith))
 
-  pub many-refused : 64 * s.group < length addresses → Refused WrongTrace ≡ records_row s addresses
+  pub many-refused : 64 * s.group < length addresses → Err WrongTrace ≡ records_row s addresses
   unfolding records_row
   many-refused h = simp (lt-leb (length addresses) (64 * s.group) h, and-false)
 
   module _ (some : 1 ≤ length addresses) where
     pub records-accepted : length addresses ≤ 64 * s.group → min (length addresses) s.group * s.ticks ≤ 4294967295
-        → Accepted ≡ records_row s addresses
+        → accept ≡ records_row s addresses
     unfolding records_row traced_blocks traced_block
     records-accepted few h =
         rw (
@@ -107,12 +108,12 @@ module _ (s : Settings) (addresses : List ℕ) where
         let first = fits-at (λ i. traced_block s (group_at s.group addresses i)) 0 _ 0 e (blocks-least (length addresses) s.group least some) in
         omega (arith, first, time-first)
 
-    pub long-refused : 4294967295 < min (length addresses) s.group * s.ticks → Refused WrongTrace ≡ records_row s addresses
+    pub long-refused : 4294967295 < min (length addresses) s.group * s.ticks → Err WrongTrace ≡ records_row s addresses
     unfolding records_row
     long-refused h = go (times_fit (traced_blocks s addresses)) (too_long h)
       where
         go : (t : Bool) → (t ≡ true → ⊥)
-            → Refused WrongTrace ≡ cond (leb 1 (length addresses) && leb (length addresses) (64 * s.group) && t) Accepted (Refused WrongTrace)
+            → Err WrongTrace ≡ cond (leb 1 (length addresses) && leb (length addresses) (64 * s.group) && t) accept (Err WrongTrace)
         go false e = rw and-false
         go true e = absurd (e refl)
 

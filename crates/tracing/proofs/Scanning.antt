@@ -1,6 +1,7 @@
 -- A scanned text is told as its lines tell it: by induction on the bytes, with the line that is begun and the lines that it and the bytes left
 -- come to.
 -- Assumes nothing.
+use Rattle.std.specs.Prelude.{None, Option, Some}
 use Prim.Native.Nat.{ℕ, suc, ◌+◌, ◌-◌, ◌^◌, ◌<◌}
 use mathlib.Core.Path.{◌≡◌, refl, sym, ap, ◌∙◌}
 use mathlib.Core.Bool.{Bool, true, false, cond}
@@ -13,8 +14,6 @@ use lib.Dec.{eqb}
 use lib.ListN.{length, get_or, set, length-map}
 use lib.Seq.{sets}
 use Rattle.model.specs.Lists.{lowest_from}
-use Rattle.model.specs.declared.Place.{Place}
-use Rattle.model.specs.declared.Place.TheVariants.{Nowhere, At}
 use Rattle.block.specs.Bytes.{Each}
 use Rattle.block.proofs.Each.{each_append}
 use Rattle.tracing.specs.Din.{line_feed, lines_of, line_right, address_of, malformed_line, addresses_of}
@@ -23,9 +22,9 @@ use Rattle.tracing.specs.declared.Scan.{Scan}
 use Rattle.tracing.proofs.Lines.{Open, line-ended, line-open, Begins, begins, Begun, nothing, label, digits, ended-right, ended-address, open-wrong, grown, broken}
 
 -- the lowest malformed of some lines, numbered from n
-unfoldable lowest_line : ℕ → List (List ℕ) → Place
-lowest_line n [] = Nowhere
-lowest_line n (l ∷ ls) = cond (line_right l) (lowest_line (suc n) ls) (At n)
+unfoldable lowest_line : ℕ → List (List ℕ) → Option ℕ
+lowest_line n [] = None
+lowest_line n (l ∷ ls) = cond (line_right l) (lowest_line (suc n) ls) (Some n)
 
 lowest-line : (f : ℕ → Bool) (n : ℕ) (ls : List (List ℕ)) → ((i : ℕ) → i < length ls → f (n + i) ≡ line_right (get_or ls i []))
     → lowest_from f n (length ls) ≡ lowest_line n ls
@@ -37,14 +36,14 @@ lowest-line f n (l ∷ ls) h =
 -- what a scan tells of the lines from n on, and what it keeps where none is malformed
 record Told (n : ℕ) (lines : List (List ℕ)) (scan : Scan) (old new : List ℕ) : Type 0 where
   pub place : scan_place scan ≡ lowest_line n lines
-  pub records : lowest_line n lines ≡ Nowhere → scan.records ≡ n + length lines
-  pub kept : lowest_line n lines ≡ Nowhere → new ≡ sets old n (map address_of lines)
+  pub records : lowest_line n lines ≡ None → scan.records ≡ n + length lines
+  pub kept : lowest_line n lines ≡ None → new ≡ sets old n (map address_of lines)
 
-pub somewhere : {n : ℕ} → At n ≡ Nowhere → ⊥
+pub somewhere : {n : ℕ} → Some n ≡ None → ⊥
 somewhere e = let z : ◌≡◌ {A = ℕ} 0 1 = cc in omega arith
 
 -- a malformed line is told, whatever is kept
-told-wrong : (n : ℕ) (lines : List (List ℕ)) (scan : Scan) (old new : List ℕ) → lowest_line n lines ≡ At n → scan.records ≡ n
+told-wrong : (n : ℕ) (lines : List (List ℕ)) (scan : Scan) (old new : List ℕ) → lowest_line n lines ≡ Some n → scan.records ≡ n
     → (scan.column ≡ 0 → ⊥) → Told n lines scan old new
 unfolding scan_place
 told-wrong n lines scan old new w e c =
@@ -68,7 +67,7 @@ told_line n l ls scan old new a w ea t =
     low : lowest_line n (l ∷ ls) ≡ lowest_line (n + 1) ls
     low = rw (w, add-one)
 
-wrong_first : (n : ℕ) (l : List ℕ) (ls : List (List ℕ)) → line_right l ≡ false → lowest_line n (l ∷ ls) ≡ At n
+wrong_first : (n : ℕ) (l : List ℕ) (ls : List (List ℕ)) → line_right l ≡ false → lowest_line n (l ∷ ls) ≡ Some n
 unfolding lowest_line
 wrong_first n l ls e = rw e
 
@@ -173,10 +172,10 @@ module _ (text addresses : List ℕ) (few : length text < 2 ^ 64) where
   pub scanned-place : scan_place (scanned started text) ≡ malformed_line text
   scanned-place = whole.place ∙ sym line-lowest
 
-  pub scanned-records : malformed_line text ≡ Nowhere → (scanned started text).records ≡ length (addresses_of text)
+  pub scanned-records : malformed_line text ≡ None → (scanned started text).records ≡ length (addresses_of text)
   unfolding addresses_of
   scanned-records e = whole.records (sym line-lowest ∙ e) ∙ rw (zero-add, length-map)
 
-  pub scanned-kept : malformed_line text ≡ Nowhere → kept started text addresses ≡ sets addresses 0 (addresses_of text)
+  pub scanned-kept : malformed_line text ≡ None → kept started text addresses ≡ sets addresses 0 (addresses_of text)
   unfolding addresses_of
   scanned-kept e = whole.kept (sym line-lowest ∙ e)

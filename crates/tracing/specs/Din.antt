@@ -1,7 +1,6 @@
 -- Traces in din form (document 02, item 11): the lines of a text, which of them are right, and the address of a right one. Assumes nothing.
-use Rattle.std.specs.Prelude.{ℕ, ◌+◌, ◌-◌, ◌*◌, Bool, false, cond, ◌&&◌, ◌||◌, List, [], ◌∷◌, map, eqb, leb, length, get_or, drop}
+use Rattle.std.specs.Prelude.{ℕ, ◌+◌, ◌-◌, ◌*◌, Bool, false, cond, ◌&&◌, ◌||◌, List, [], ◌∷◌, map, eqb, leb, length, get_or, drop, Option}
 use Rattle.model.specs.Lists.{lowest_from, same_list}
-use Rattle.model.specs.declared.Place.{Place}
 
 -- what ends a line
 abbrev pub line_feed : ℕ
@@ -57,7 +56,7 @@ unfoldable pub address_of : List ℕ → ℕ
 address_of line = hex_from 0 (digits_of (drop 2 line))
 
 -- the lowest malformed line, from 0
-unfoldable pub malformed_line : List ℕ → Place
+unfoldable pub malformed_line : List ℕ → Option ℕ
 malformed_line text = lowest_from (λ i. line_right (get_or (lines_of text) i [])) 0 (length (lines_of text))
 
 -- the addresses of a text's records, where each line is right

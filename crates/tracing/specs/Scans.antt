@@ -1,8 +1,6 @@
 -- What a scan of a text knows, byte by byte, so that a text can be scanned in pieces. That this is what the lines of the whole text say is
 -- stated in Statements. Assumes nothing.
-use Rattle.std.specs.Prelude.{ℕ, ◌+◌, ◌-◌, ◌*◌, ◌%◌, ◌^◌, ◌≤◌, ◌≡◌, Bool, cond, ◌&&◌, List, [], ◌∷◌, eqb, leb, ltb, length, set}
-use Rattle.model.specs.declared.Place.{Place}
-use Rattle.model.specs.declared.Place.TheVariants.{Nowhere, At}
+use Rattle.std.specs.Prelude.{ℕ, ◌+◌, ◌-◌, ◌*◌, ◌%◌, ◌^◌, ◌≤◌, ◌≡◌, Bool, cond, ◌&&◌, List, [], ◌∷◌, eqb, leb, ltb, length, set, Option, None, Some}
 use Rattle.tracing.specs.Din.{line_feed, is_label, is_space, is_hex, digit_of}
 use Rattle.tracing.specs.declared.Scan.{Scan}
 
@@ -64,5 +62,5 @@ pub record Ahead (s : Scan) (rest : List ℕ) (r : Scan) (left : List ℕ) : Typ
   pub keeps : (addresses : List ℕ) → kept r left addresses ≡ kept s rest addresses
 
 -- the malformed line, where the text ends here: the one that is not ended is malformed too
-unfoldable pub scan_place : Scan → Place
-scan_place s = cond (eqb s.column 0) Nowhere (At s.records)
+unfoldable pub scan_place : Scan → Option ℕ
+scan_place s = cond (eqb s.column 0) None (Some s.records)

@@ -1,6 +1,6 @@
 -- What is shown of traces beside the contracts (document 02, item 11). Assumes nothing.
-use Rattle.std.specs.Prelude.{ℕ, ◌^◌, ◌<◌, ◌≡◌, List, ◌++◌, length, take}
-use Rattle.model.specs.declared.Verdict.TheVariants.{Accepted}
+use Rattle.std.specs.Prelude.{ℕ, ◌^◌, ◌<◌, ◌≡◌, List, ◌++◌, length, take, Ok}
+use Rattle.model.specs.Answers.{accept}
 use Rattle.taskfile.specs.File.{task_of, IsAccepted}
 use Rattle.tracing.specs.Din.{addresses_of}
 use Rattle.tracing.specs.Traces.{traced_task}
@@ -18,9 +18,10 @@ pub record Narrow (s : Settings) : Type 0 where
 -- the file that is made, the first bytes of the output, is accepted, and its task is the traced one
 abbrev pub TracedAccepted : Type 0
 TracedAccepted =
-    (s : Settings) (text out : List ℕ) → Narrow s → trace_verdict s text out ≡ Accepted
-    → let file = take (trace_answer s text out).length (trace_output s text out) in
-    IsAccepted file × (task_of file ≡ traced_task s (addresses_of text))
+    (s : Settings) (text out : List ℕ) → Narrow s → trace_verdict s text out ≡ accept
+    → (n : ℕ) × (trace_answer s text out ≡ Ok n) ×
+    (let file = take n (trace_output s text out) in
+    IsAccepted file × (task_of file ≡ traced_task s (addresses_of text)))
 
 -- a piece and then another come to both
 abbrev pub Pieces : Type 0

@@ -14,7 +14,7 @@ ghost use Rattle.tracing.specs.Scans.{after, kept_after, scanned, kept, Ahead, s
 ghost use Rattle.tracing.specs.Calls.{output_size, settings_in_range, settings_row, records_row, line_row, Traceable};
 ghost use Rattle.tracing.specs.Calls.{made_answer, made_output, scan_answer, scan_output, trace_answer, trace_output};
 
-use model::{Header, Refusal, Scratch, Verdict};
+use model::{Header, Refusal, Scratch};
 use std::cmp::min;
 
 // The addresses that a room holds at least: those of the largest file, 64 basic blocks of 124
@@ -32,13 +32,6 @@ pub struct Settings {
     pub limit: u32,
     pub reload: u32,
     pub id: u32,
-}
-
-// What a call answers: the file's length beside the verdict, 0 where it refuses.
-#[derive(Clone, Copy)]
-pub struct Traced {
-    pub verdict: Verdict,
-    pub length: usize,
 }
 
 // What is known of a text so far: how many bytes of its last line there are, or 11 where a line is malformed; the address that the digits
@@ -106,33 +99,33 @@ fn settings_in_range(settings: Settings) -> bool
 }
 
 // Refuses S, the size or g out of its range.
-fn check_settings(settings: Settings) -> Verdict
+fn check_settings(settings: Settings) -> Result<(), Refusal>
     ensures { result ≡ settings_row settings }
 {
     if settings_in_range(settings) {
-        Verdict::Accepted
+        Ok(())
     } else {
-        Verdict::Refused(Refusal::OutOfRange)
+        Err(Refusal::OutOfRange)
     }
 }
 
 // Refuses no record, too many of them, or a time above 4294967295: the longest block has g records, or all where there are fewer.
-fn check_records(settings: Settings, addresses: &[u32]) -> Verdict
+fn check_records(settings: Settings, addresses: &[u32]) -> Result<(), Refusal>
     ensures { result ≡ records_row settings addresses.now }
 {
     let count = addresses.len();
     let group = settings.group as usize;
     if count == 0 {
-        return Verdict::Refused(Refusal::WrongTrace);
+        return Err(Refusal::WrongTrace);
     }
     if 64 * group < count {
-        return Verdict::Refused(Refusal::WrongTrace);
+        return Err(Refusal::WrongTrace);
     }
     let longest = min(count, group);
     if 4294967295 < longest as u64 * settings.ticks as u64 {
-        return Verdict::Refused(Refusal::WrongTrace);
+        return Err(Refusal::WrongTrace);
     }
-    Verdict::Accepted
+    Ok(())
 }
 
 // The memory block that an address lies in.
@@ -343,62 +336,58 @@ impl Scan {
     }
 
     // Refuses a malformed line, of a text that ends here.
-    fn check_line(self) -> Verdict
+    fn check_line(self) -> Result<(), Refusal>
         ensures { result ≡ line_row (scan_place self) }
     {
         if self.column == 0 {
-            Verdict::Accepted
+            Ok(())
         } else {
-            Verdict::Refused(Refusal::WrongTraceLine(self.records))
+            Err(Refusal::WrongTraceLine(self.records))
         }
     }
 
     // Refuses settings, a line or a trace, of a text that ends here and has these addresses.
-    fn check(self, addresses: &[u32], settings: Settings) -> Verdict
+    fn check(self, addresses: &[u32], settings: Settings) -> Result<(), Refusal>
         ensures { result ≡ and_then (settings_row settings) (and_then (line_row (scan_place self)) (records_row settings addresses.now)) }
     {
-        let line = self.check_line();
-        let records = check_records(settings, addresses);
-        answers::earlier(check_settings(settings), answers::earlier(line, records))
+        check_settings(settings)?;
+        self.check_line()?;
+        check_records(settings, addresses)
     }
 
-    // Writes the file of a text that ends here and has these addresses, or refuses it.
-    fn write(self, addresses: &[u32], settings: Settings, out: &mut [u8]) -> Traced
+    // Writes the file of a text that ends here and has these addresses, and answers its length, or refuses it.
+    fn write(self, addresses: &[u32], settings: Settings, out: &mut [u8]) -> Result<usize, Refusal>
         ensures value { result ≡ made_answer settings (scan_place self) addresses.now out.old }
         ensures out_after { out.new ≡ made_output settings (scan_place self) addresses.now out.old }
     {
-        let output = answers::check_output(33280, out.len());
-        let verdict = answers::earlier(output, self.check(addresses, settings));
-        match verdict {
-            Verdict::Accepted => {
-                let length = put_file(out, addresses, settings);
-                Traced { verdict, length }
-            }
-            Verdict::Refused(_) => Traced { verdict, length: 0 },
-        }
+        answers::check_output(33280, out.len())?;
+        self.check(addresses, settings)?;
+        Ok(put_file(out, addresses, settings))
     }
 
-    // Writes the file of a text that ends here into the output, or refuses it. `addresses` is the
-    // room that `over` was lent. 9 for a room of fewer than ROOM addresses or for the output's
-    // length, then 10, 13 and 14. On a refusal the output stays what it was.
-    pub fn finish(self, addresses: &[u32], settings: Settings, out: &mut [u8]) -> Traced
+    // Writes the file of a text that ends here into the output and answers its length, or refuses it.
+    // `addresses` is the room that `over` was lent. 9 for a room of fewer than ROOM addresses or for the
+    // output's length, then 10, 13 and 14. On a refusal the output stays what it was.
+    pub fn finish(
+        self,
+        addresses: &[u32],
+        settings: Settings,
+        out: &mut [u8],
+    ) -> Result<usize, Refusal>
         ensures value { result ≡ scan_answer settings self addresses.now out.old }
         ensures out_after { out.new ≡ scan_output settings self addresses.now out.old }
     {
         if addresses.len() < ROOM {
-            return Traced {
-                verdict: Verdict::Refused(Refusal::Output),
-                length: 0,
-            };
+            return Err(Refusal::Output);
         }
         let count = min(self.records, addresses.len());
         self.write(&addresses[..count], settings, out)
     }
 }
 
-// Makes a task file of a trace in din form: 9 for the output's length, 10 for S, the size and g, 13 at the lowest malformed line, 14 for the records
+// Makes a task file of a trace in din form and answers its length: 9 for the output's length, 10 for S, the size and g, 13 at the lowest malformed line, 14 for the records
 // and the times. The output begins with the file, and its bytes past that are as they were; on a refusal all are.
-pub fn trace(text: &[u8], settings: Settings, out: &mut [u8]) -> Traced
+pub fn trace(text: &[u8], settings: Settings, out: &mut [u8]) -> Result<usize, Refusal>
     ensures value { result ≡ trace_answer settings text.now out.old }
     ensures out_after { out.new ≡ trace_output settings text.now out.old }
 {

@@ -2,7 +2,6 @@
 #![tactic(auto)]
 
 use lineset::LineSet;
-use model::Verdict;
 use std::io;
 
 fn print_useful(rt: &impl Print, lines: LineSet) -> io::Result<()> {
@@ -16,8 +15,8 @@ fn print_answer(rt: &impl Print, file: &[u8], k: usize) -> io::Result<()> {
     let verdict = found.verdict;
     let lines = found.lines;
     match verdict {
-        Verdict::Accepted => print_useful(rt, lines),
-        Verdict::Refused(refusal) => desk::print_refusal(rt, refusal),
+        Ok(()) => print_useful(rt, lines),
+        Err(refusal) => desk::print_refusal(rt, refusal),
     }
 }
 

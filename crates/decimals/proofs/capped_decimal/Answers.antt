@@ -25,7 +25,7 @@ pub loop-i-preserved : goal.loop-i-preserved
 loop-i-preserved c =
     let text = c.args.text.now in
     let most = c.args.most in
-    let more = sym c.with_digit.ensures ∙ c.in-Number.is in
+    let more = sym c.with_digit.ensures ∙ c.in-Some.is in
     let cut = ap (λ (n : ℕ). capped most n (drop (c.loop-i.i + 1) text)) (sym c.lesser-n.ensures) in
     (omega arith, omega (arith, c.lesser-n.ensures), c.loop-i.invariant.2 ∙ capped-next most text c.loop-i.i c.loop-i.n _ more c.loop-i-test.true ∙ cut)
 

@@ -25,7 +25,7 @@ returns-in_default c =
 pub loop-i-preserved : goal.loop-i-preserved
 loop-i-preserved c =
     let text = c.args.text.now in
-    let more = sym c.with_digit.ensures ∙ c.in-Number.is in
+    let more = sym c.with_digit.ensures ∙ c.in-Some.is in
     (omega arith, search rules, c.loop-i.invariant.2 ∙ next-byte text c.loop-i.i c.loop-i.n more c.loop-i-test.true)
 
 pub returns : goal.returns

@@ -29,7 +29,7 @@ returns-in_default c =
 pub loop-number-preserved : goal.loop-number-preserved
 loop-number-preserved c =
     let l = c.loop-number in
-    (l.invariant.0, reached-next _ _ _ _ _ l.number l.invariant.1 (omega arith) (sym c.if_fitting-found.ensures ∙ c.in-NoMore.is))
+    (l.invariant.0, reached-next _ _ _ _ _ l.number l.invariant.1 (omega arith) (sym c.if_fitting-found.ensures ∙ c.in-None.is))
 
 pub returns : goal.returns
 returns c = reached-end _ _ _ _ _ c.loop-number.number c.loop-number.invariant.1 (omega arith)

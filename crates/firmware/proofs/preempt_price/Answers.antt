@@ -2,8 +2,7 @@
 use mathlib.Core.Path.{◌≡◌, refl, sym, ap₂, ◌∙◌}
 use native.Mathlib.Omega.{arith}
 use lib.ListN.{length}
-use Rattle.model.specs.Answers.{output_row}
-use Rattle.model.specs.declared.Verdict.TheVariants.{Accepted}
+use Rattle.model.specs.Answers.{accept, output_row}
 use Rattle.model.proofs.Verdicts.{output-size}
 use Rattle.firmware.specs.Calls.{returned, price_call_verdict, price_returned, price_left}
 use Rattle.firmware.proofs.Calls.{block-most, block-stores, block-left}
@@ -11,8 +10,8 @@ use Rattle.firmware.proofs.preempt_price.Goals as goal
 use Rattle.firmware.proofs.preempt_price.Goals.{In-Accepted}
 
 -- the block is of 512 bytes
-row : (c : goal.In-Accepted) → output_row 512 (length c.args.block.now) ≡ Accepted
-row c = sym c.check_output-output.ensures ∙ c.in-Accepted.is
+row : (c : goal.In-Ok) → output_row 512 (length c.args.block.now) ≡ accept
+row c = sym c.check_output-output.ensures ∙ c.in-Ok.is
 
 pub returns-in_default : goal.returns-in_default
 unfolding price_call_verdict price_returned price_left
@@ -26,7 +25,7 @@ leave-requires c =
     let file = c.args.file.now in
     let points = c.args.points.now in
     let answers = c.price_block-priced.ensures in
-    (output-size _ _ (row (goal.at.leave-requires c).In-Accepted), rw (c.price_block-priced.ensures.verdict_value, c.price_block-priced.ensures.plan_value) (block-stores file points), omega (arith, c.price_block-priced.ensures.place_value, block-most file points))
+    (output-size _ _ (row (goal.at.leave-requires c).In-Ok), rw (c.price_block-priced.ensures.verdict_value, c.price_block-priced.ensures.plan_value) (block-stores file points), omega (arith, c.price_block-priced.ensures.place_value, block-most file points))
 
 pub returns : goal.returns
 unfolding price_call_verdict price_returned price_left
@@ -34,4 +33,4 @@ returns c =
     let args = c.args in
     let answers = c.price_block-priced.ensures in
     let kept = rw (c.price_block-priced.ensures.verdict_value, c.price_block-priced.ensures.plan_value) at c.leave.ensures.block_after in
-    rw (row (goal.at.returns c).In-Accepted) record { value = c.leave.ensures.value ∙ ap₂ returned c.price_block-priced.ensures.verdict_value c.price_block-priced.ensures.place_value; block_after = kept ∙ block-left args.file.now args.points.now args.block.now }
+    rw (row (goal.at.returns c).In-Ok) record { value = c.leave.ensures.value ∙ ap₂ returned c.price_block-priced.ensures.verdict_value c.price_block-priced.ensures.place_value; block_after = kept ∙ block-left args.file.now args.points.now args.block.now }

@@ -3,9 +3,8 @@ use Prim.Native.Nat.{ℕ, ◌+◌}
 use mathlib.Core.Path.{◌≡◌, refl, sym, ap, ap₂, ◌∙◌}
 use native.Mathlib.Omega.{arith}
 use lib.ListN.{length}
-use Rattle.model.specs.Answers.{and_then, output_row}
+use Rattle.model.specs.Answers.{accept, and_then, output_row}
 use Rattle.model.specs.Task.{block_count}
-use Rattle.model.specs.declared.Verdict.TheVariants.{Accepted}
 use Rattle.taskfile.specs.File.{task_of}
 use Rattle.writer.specs.Writing.{file_size}
 use Rattle.joining.specs.Joining.{joined}
@@ -51,13 +50,13 @@ decided c =
 pub put_joined-requires : goal.put_joined-requires
 put_joined-requires c =
     let counts = totals (goal.at.put_joined-requires c).After-earlier-verdict in
-    let later : c.earlier-later.result ≡ Accepted = search (rules, second-accepts) in
+    let later : c.earlier-later.result ≡ accept = search (rules, second-accepts) in
     let room = room-accepts _ _ _ (sym (roomed (goal.at.put_joined-requires c).After-earlier-verdict) ∙ later) in
     let fit = counts-fit _ _ room.fit in record { accepted = c.requires; totals = record { blocks = counts.0; preempters = counts.1; fit = (omega (arith, counts.0), omega (arith, counts.1)) }; out_len = omega (arith, room.long, counts.0, counts.1) }
 
-pub returns-in-Accepted : goal.returns-in-Accepted
-returns-in-Accepted c =
-    record { value = decided (goal.at.returns-in-Accepted c).After-earlier-verdict; out_after = rw c.in-Accepted.is c.put_joined.ensures }
+pub returns-in-Ok : goal.returns-in-Ok
+returns-in-Ok c =
+    record { value = decided (goal.at.returns-in-Ok c).After-earlier-verdict; out_after = rw c.in-Ok.is c.put_joined.ensures }
 
-pub returns-in-Refused : goal.returns-in-Refused
-returns-in-Refused c = record { value = decided (goal.at.returns-in-Refused c).After-earlier-verdict; out_after = rw c.in-Refused.is refl }
+pub returns-in-Err : goal.returns-in-Err
+returns-in-Err c = record { value = decided (goal.at.returns-in-Err c).After-earlier-verdict; out_after = rw c.in-Err.is refl }

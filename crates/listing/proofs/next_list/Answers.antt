@@ -19,12 +19,12 @@ returns-in_default c =
 
 pub find_next-found-requires : goal.find_next-found-requires
 find_next-found-requires c =
-    let listed = sym c.check-verdict.ensures ∙ c.in-Accepted.is in (is-accepted _ listed, short _ listed)
+    let listed = sym c.check-verdict.ensures ∙ c.in-Ok.is in (is-accepted _ listed, short _ listed)
 
 pub returns-in_default-found : goal.returns-in_default-found
 returns-in_default-found c =
     let check = c.check-verdict.ensures in
-    let accepted = sym check ∙ c.in-Accepted.is in
+    let accepted = sym check ∙ c.in-Ok.is in
     let none =
     next-listed c.args.file.now accepted c.args.start ∙ sym c.find_next-found.ensures ∙ c.in_default-found.is in
     let e = c.no_list-in_default-found.ensures in
@@ -32,20 +32,20 @@ returns-in_default-found c =
 
 pub block_count-requires : goal.block_count-requires
 block_count-requires c =
-    is-accepted _ (sym c.check-verdict.ensures ∙ c.in-Accepted.is)
+    is-accepted _ (sym c.check-verdict.ensures ∙ c.in-Ok.is)
 
 pub points_of-points-requires : goal.points_of-points-requires
 points_of-points-requires c =
     let file = c.args.file.now in
-    let accepted = sym c.check-verdict.ensures ∙ c.in-Accepted.is in
+    let accepted = sym c.check-verdict.ensures ∙ c.in-Ok.is in
     (omega (arith, c.block_count.ensures.0, positive file accepted), omega (arith, c.block_count.ensures.0, short file accepted))
 
 pub returns : goal.returns
 returns c =
     let file = c.args.file.now in
     let check = c.check-verdict.ensures in
-    let accepted = sym check ∙ c.in-Accepted.is in
-    let is = next-listed file accepted c.args.start ∙ sym c.find_next-found.ensures ∙ c.in-Fitting.is in
+    let accepted = sym check ∙ c.in-Ok.is in
+    let is = next-listed file accepted c.args.start ∙ sym c.find_next-found.ensures ∙ c.in-Some.is in
     let points = c.points_of-points.ensures in
-    let all = ap (λ (n : ℕ). list_of n c.in-Fitting.list.number) c.block_count.ensures.0 ∙ ap (points_found (block_count (task_of file))) (sym is) in
+    let all = ap (λ (n : ℕ). list_of n c.in-Some.list.number) c.block_count.ensures.0 ∙ ap (points_found (block_count (task_of file))) (sym is) in
     record { verdict_value = check; found_value = sym is; count_value = points.0 ∙ ap length all; points_value = points.1 ∙ ap in_array all }

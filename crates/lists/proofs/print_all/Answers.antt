@@ -9,15 +9,15 @@ few n h = pow_mono {j = 15} (omega arith)
 
 pub overflow_add-start : goal.overflow_add-start
 overflow_add-start g c =
-    let found = found_between _ _ _ _ _ _ (sym c.next_fitting-found.ensures ∙ c.in-Fitting.is) in
+    let found = found_between _ _ _ _ _ _ (sym c.next_fitting-found.ensures ∙ c.in-Some.is) in
     omega (arith, found.1, few c.args.blocks c.requires.1)
 
 pub loop-list-smaller : goal.loop-list-smaller
 loop-list-smaller g c =
-    let found = found_between _ _ _ _ _ _ (sym c.next_fitting-found.ensures ∙ c.in-Fitting.is) in
+    let found = found_between _ _ _ _ _ _ (sym c.next_fitting-found.ensures ∙ c.in-Some.is) in
     omega (arith, found.0, found.1)
 
 pub loop-list-preserved : goal.loop-list-preserved
 loop-list-preserved g c =
-    let found = found_between _ _ _ _ _ _ (sym c.next_fitting-found.ensures ∙ c.in-Fitting.is) in
+    let found = found_between _ _ _ _ _ _ (sym c.next_fitting-found.ensures ∙ c.in-Some.is) in
     omega (arith, found.1)

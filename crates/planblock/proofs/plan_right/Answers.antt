@@ -13,20 +13,20 @@ count-read : (c : goal.Start) → c.args.plan.count ≡ field c.args.bytes.now 4
 unfolding plan_of
 count-read c = ap (λ (p : Plan). p.count) c.requires.plan_value
 
-pub returns-in-Accepted : goal.returns-in-Accepted
+pub returns-in-Ok : goal.returns-in-Ok
 unfolding plan_right
-returns-in-Accepted c =
-    let count = count-read (goal.at.returns-in-Accepted c).Start in
+returns-in-Ok c =
+    let count = count-read (goal.at.returns-in-Ok c).Start in
     rw (
       named-read c.args.bytes.now (λ i _. (c.type_inv.bytes i).fits) c.requires.bytes_len (omega arith),
       ← count,
       ← c.requires.plan_value,
       ← c.check-verdict.ensures,
-      c.in-Accepted.is,
+      c.in-Ok.is,
     )
     c.body_right.ensures
 
-pub returns-in-Refused : goal.returns-in-Refused
+pub returns-in-Err : goal.returns-in-Err
 unfolding plan_right
-returns-in-Refused c =
-    rw (← c.requires.plan_value, ← c.check-verdict.ensures, c.in-Refused.is)
+returns-in-Err c =
+    rw (← c.requires.plan_value, ← c.check-verdict.ensures, c.in-Err.is)

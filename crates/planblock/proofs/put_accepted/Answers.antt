@@ -6,8 +6,8 @@ use Rattle.planblock.proofs.put_accepted.Goals as goal
 
 pub put_block-requires : goal.put_block-requires
 put_block-requires c =
-    record { out_len = search rules; count_bound = count-accepted c.args.plan (sym c.requires.verdict_value ∙ c.in-Accepted.is) }
+    record { out_len = search rules; count_bound = count-accepted c.args.plan (sym c.requires.verdict_value ∙ c.in-Ok.is) }
 
-pub returns-in-Accepted : goal.returns-in-Accepted
-returns-in-Accepted c =
-    rw c.in-Accepted.is c.put_block.ensures
+pub returns-in-Ok : goal.returns-in-Ok
+returns-in-Ok c =
+    rw c.in-Ok.is c.put_block.ensures

@@ -1,4 +1,6 @@
 -- `planblock::read` meets its contract: each return is the first test of the verdict that fails, or the last one.
+use Rattle.std.specs.Prelude.{Err}
+use Rattle.model.specs.Answers.{accept}
 use mathlib.Core.Path.{◌≡◌, refl, sym, ◌∙◌}
 use mathlib.Core.Bool.{cond, true}
 use mathlib.Core.List.{List}
@@ -8,14 +10,13 @@ use borrow.Author.Tests.{eq-eqb, ne_eqb}
 use native.Mathlib.Omega.{arith}
 use borrow.Author.Rules.{rules}
 use Rattle.model.specs.declared.Refusal.TheVariants.{WrongBlock}
-use Rattle.model.specs.declared.Verdict.TheVariants.{Accepted, Refused}
 use Rattle.block.specs.Blocks.{checksum_right}
 use Rattle.planblock.specs.Plans.{read_verdict, plan_right, plan_of}
 use Rattle.planblock.proofs.Verdicts.{count-wrong}
 use Rattle.planblock.proofs.read.Goals as goal
 
 -- what is left to test of a block whose checksum is right
-body : (bs : List ℕ) → length bs ≡ 512 → checksum_right bs ≡ true → read_verdict bs ≡ cond (plan_right bs) Accepted (Refused (WrongBlock 0))
+body : (bs : List ℕ) → length bs ≡ 512 → checksum_right bs ≡ true → read_verdict bs ≡ cond (plan_right bs) accept (Err (WrongBlock 0))
 unfolding read_verdict
 body bs l e = rw (eq-eqb _ _ l, e)
 

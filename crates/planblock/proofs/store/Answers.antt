@@ -13,10 +13,10 @@ returns-in_default c =
 
 pub put_accepted-requires : goal.put_accepted-requires
 put_accepted-requires c =
-    record { out_len = output-size _ _ (sym c.check_output-output.ensures ∙ c.in-Accepted.is); verdict_value = c.check-verdict.ensures }
+    record { out_len = output-size _ _ (sym c.check_output-output.ensures ∙ c.in-Ok.is); verdict_value = c.check-verdict.ensures }
 
 pub returns : goal.returns
 unfolding store_verdict stored
 returns c =
-    let row = sym c.check_output-output.ensures ∙ c.in-Accepted.is in
+    let row = sym c.check_output-output.ensures ∙ c.in-Ok.is in
     rw (row, ← c.check-verdict.ensures) record { value = refl; out_after = c.put_accepted.ensures }

@@ -13,9 +13,9 @@ returns-in_default c =
     }
 
 pub least_plan-requires : goal.least_plan-requires
-least_plan-requires c = sym c.check-checked.ensures ∙ c.in-Accepted.is
+least_plan-requires c = sym c.check-checked.ensures ∙ c.in-Ok.is
 
 pub returns : goal.returns
 returns c =
-    let accepted = sym c.check-checked.ensures ∙ c.in-Accepted.is in
+    let accepted = sym c.check-checked.ensures ∙ c.in-Ok.is in
     record { refused = λ x e. absurd (never_both (sym accepted ∙ e)); planned = λ e. c.least_plan.ensures }

@@ -13,10 +13,10 @@ returns-in_default c =
 
 pub next_read-found-requires : goal.next_read-found-requires
 next_read-found-requires c =
-    edge-inside c.args.file.now c.args.k (sym c.check_edge-checked.ensures ∙ c.in-Accepted.is)
+    edge-inside c.args.file.now c.args.k (sym c.check_edge-checked.ensures ∙ c.in-Ok.is)
 
 pub returns : goal.returns
 unfolding next_read_of looked_of
 returns c =
-    let accepted = sym c.check_edge-checked.ensures ∙ c.in-Accepted.is in
+    let accepted = sym c.check_edge-checked.ensures ∙ c.in-Ok.is in
     rw accepted record { verdict_value = refl; next_value = c.next_read-found.ensures.next_value; looked_value = c.next_read-found.ensures.looked_value }

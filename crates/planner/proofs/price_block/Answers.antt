@@ -47,13 +47,13 @@ pub price_points-priced-requires : goal.price_points-priced-requires
 price_points-priced-requires c =
     let args = c.args in
     let block = c.args.block.now in
-    let both = both-accepted (verdict args.file.now) (read_verdict block) (sym (checks (goal.at.price_points-priced-requires c).After-earlier-before) ∙ c.in-Accepted.is) in
+    let both = both-accepted (verdict args.file.now) (read_verdict block) (sym (checks (goal.at.price_points-priced-requires c).After-earlier-before) ∙ c.in-Ok.is) in
     rw (c.read-read.ensures.plan_value, both.1) record { accepted = both.0; count_bound = (count-accepted (plan_of block) (store-back block both.1).0, zeros-after block) }
 
 pub returns : goal.returns
 unfolding block_verdict block_place block_plan
 returns c =
     let args = c.args in
-    let both = both-accepted (verdict args.file.now) (read_verdict args.block.now) (sym (checks (goal.at.returns c).After-earlier-before) ∙ c.in-Accepted.is) in
+    let both = both-accepted (verdict args.file.now) (read_verdict args.block.now) (sym (checks (goal.at.returns c).After-earlier-before) ∙ c.in-Ok.is) in
     let answers = rw (c.read-read.ensures.plan_value, both.1) at c.price_points-priced.ensures in
     rw (both.0, both.1) record { verdict_value = answers.0; place_value = rw answers.0 at c.verdict_place.ensures; plan_value = answers.1 }

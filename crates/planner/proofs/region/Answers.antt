@@ -21,17 +21,17 @@ returns-in_default c =
 pub returns-then-b-a : goal.returns-then-b-a
 unfolding region_verdict loaded_words length_of
 returns-then-b-a c =
-    let accepted = sym c.check-checked.ensures ∙ c.in-Accepted.is in
+    let accepted = sym c.check-checked.ensures ∙ c.in-Ok.is in
     rw (c.no_region-then-b-a.ensures.0, c.no_region-then-b-a.ensures.1, c.no_region-then-b-a.ensures.2, accepted, le-ltb c.args.a c.args.b (omega arith))
     record { verdict_value = refl; words_value = refl; length_value = refl }
 
 pub block_count-requires : goal.block_count-requires
-block_count-requires c = sym c.check-checked.ensures ∙ c.in-Accepted.is
+block_count-requires c = sym c.check-checked.ensures ∙ c.in-Ok.is
 
 pub returns-then-block_count-b : goal.returns-then-block_count-b
 unfolding region_verdict loaded_words length_of
 returns-then-block_count-b c =
-    let accepted = sym c.check-checked.ensures ∙ c.in-Accepted.is in
+    let accepted = sym c.check-checked.ensures ∙ c.in-Ok.is in
     rw (
       c.no_region-then-block_count-b.ensures.0,
       c.no_region-then-block_count-b.ensures.1,
@@ -43,12 +43,12 @@ returns-then-block_count-b c =
     record { verdict_value = refl; words_value = refl; length_value = refl }
 
 pub measure-found-requires : goal.measure-found-requires
-measure-found-requires c = (sym c.check-checked.ensures ∙ c.in-Accepted.is, omega arith, omega arith)
+measure-found-requires c = (sym c.check-checked.ensures ∙ c.in-Ok.is, omega arith, omega arith)
 
 pub returns : goal.returns
 unfolding region_verdict loaded_words length_of
 returns c =
-    let accepted = sym c.check-checked.ensures ∙ c.in-Accepted.is in
+    let accepted = sym c.check-checked.ensures ∙ c.in-Ok.is in
     let found = c.measure-found in
     rw (
       accepted,

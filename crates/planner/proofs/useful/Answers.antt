@@ -17,12 +17,12 @@ returns-in_default c =
 
 pub useful_lines-requires : goal.useful_lines-requires
 useful_lines-requires c =
-    edge-inside c.args.file.now c.args.k (sym c.check_edge-checked.ensures ∙ c.in-Accepted.is)
+    edge-inside c.args.file.now c.args.k (sym c.check_edge-checked.ensures ∙ c.in-Ok.is)
 
 pub returns : goal.returns
 unfolding useful_words
 returns c =
-    let accepted = sym c.check_edge-checked.ensures ∙ c.in-Accepted.is in
+    let accepted = sym c.check_edge-checked.ensures ∙ c.in-Ok.is in
     rw accepted record {
       verdict_value = refl;
       words_value = set_words (lines.useful (task_of c.args.file.now) c.args.k) c.useful_lines.result (search (rules, fits_word))

@@ -30,13 +30,13 @@ plan_of-requires c =
       c.requires.accepted,
       c.requires.count_bound.0,
       lines_fit first.count first.points (search rules) (search rules) (task_of c.args.file.now)
-          (sym price.ensures.verdict ∙ c.in-Accepted.is) price.result price.ensures,
+          (sym price.ensures.verdict ∙ c.in-Ok.is) price.result price.ensures,
     )
 
 pub returns : goal.returns
 returns c =
     let price = c.price_of-price in
     let first = c.args.first in
-    let accepted = sym price.ensures.verdict ∙ c.in-Accepted.is in
+    let accepted = sym price.ensures.verdict ∙ c.in-Ok.is in
     rw (accepted, c.plan_of.ensures)
-    (c.in-Accepted.is, follows first.count first.points (search rules) (search rules) (task_of c.args.file.now) accepted price.result price.ensures)
+    (c.in-Ok.is, follows first.count first.points (search rules) (search rules) (task_of c.args.file.now) accepted price.result price.ensures)

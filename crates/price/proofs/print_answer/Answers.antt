@@ -15,5 +15,5 @@ unfolding price_verdict
 print_price-requires g c =
     let t = task_of c.args.file.now in
     let ps = c.first-listed.result.now in
-    let accepted = both-accepted (verdict c.args.file.now) (pricing t ps) (sym c.price-price.ensures.verdict_value ∙ c.in-Accepted.is) in
+    let accepted = both-accepted (verdict c.args.file.now) (pricing t ps) (sym c.price-price.ensures.verdict_value ∙ c.in-Ok.is) in
     (accepted.0, lowest-none (right_point (block_count t)) 0 (steps 0 ps) (accepted-well-formed t ps accepted.1))

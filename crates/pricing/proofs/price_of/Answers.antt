@@ -17,14 +17,14 @@ wrong c =
     sym (c.wrong_point.ensures ∙ ap (λ (n : ℕ). wrong_point n ps) c.block_count.ensures.0)
 
 pub count_lines-requires : goal.count_lines-requires
-count_lines-requires c = (c.requires, wrong (goal.at.count_lines-requires c).After-wrong_point ∙ c.in-Nowhere.is, refl)
+count_lines-requires c = (c.requires, wrong (goal.at.count_lines-requires c).After-wrong_point ∙ c.in-None.is, refl)
 
 pub price_regions-requires : goal.price_regions-requires
-price_regions-requires c = (c.requires, wrong (goal.at.price_regions-requires c).After-wrong_point ∙ c.in-Nowhere.is, c.count_lines.ensures.loads)
+price_regions-requires c = (c.requires, wrong (goal.at.price_regions-requires c).After-wrong_point ∙ c.in-None.is, c.count_lines.ensures.loads)
 
-pub returns-in-At : goal.returns-in-At
-returns-in-At c =
+pub returns-in-Some : goal.returns-in-Some
+returns-in-Some c =
     let args = c.args in
     let t = task_of args.file.now in
     let ps = c.args.points.now in
-    rw c.no_price.ensures (refused-prices t ps (wrong-pricing t ps (wrong (goal.at.returns-in-At c).After-wrong_point ∙ c.in-At.is)))
+    rw c.no_price.ensures (refused-prices t ps (wrong-pricing t ps (wrong (goal.at.returns-in-Some c).After-wrong_point ∙ c.in-Some.is)))

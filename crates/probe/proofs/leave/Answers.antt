@@ -27,17 +27,17 @@ given c =
 pub put_numbers-requires : goal.put_numbers-requires
 unfolding probed
 put_numbers-requires c =
-    let both = both-accepted _ _ (sym (decided (goal.at.put_numbers-requires c).After-earlier-answer) ∙ c.in-Accepted.is) in
+    let both = both-accepted _ _ (sym (decided (goal.at.put_numbers-requires c).After-earlier-answer) ∙ c.in-Ok.is) in
     (search rules, output-size _ _ both.0)
 
-pub returns-in-Accepted : goal.returns-in-Accepted
+pub returns-in-Ok : goal.returns-in-Ok
 unfolding left
-returns-in-Accepted c =
-    let known = given (goal.at.returns-in-Accepted c).After-verdict_number-number in
-    record { value = known.0; place_after = known.1; out_after = rw (← decided (goal.at.returns-in-Accepted c).After-earlier-answer, c.in-Accepted.is) c.put_numbers.ensures }
+returns-in-Ok c =
+    let known = given (goal.at.returns-in-Ok c).After-verdict_number-number in
+    record { value = known.0; place_after = known.1; out_after = rw (← decided (goal.at.returns-in-Ok c).After-earlier-answer, c.in-Ok.is) c.put_numbers.ensures }
 
-pub returns-in-Refused : goal.returns-in-Refused
+pub returns-in-Err : goal.returns-in-Err
 unfolding left
-returns-in-Refused c =
-    let known = given (goal.at.returns-in-Refused c).After-verdict_number-number in
-    record { value = known.0; place_after = known.1; out_after = rw (← decided (goal.at.returns-in-Refused c).After-earlier-answer, c.in-Refused.is) refl }
+returns-in-Err c =
+    let known = given (goal.at.returns-in-Err c).After-verdict_number-number in
+    record { value = known.0; place_after = known.1; out_after = rw (← decided (goal.at.returns-in-Err c).After-earlier-answer, c.in-Err.is) refl }

@@ -1,8 +1,8 @@
 -- `probe::next_numbers` meets its contract, by the two answers of a search.
 use Rattle.probe.proofs.next_numbers.Goals as goal
 
-pub returns-in-Read : goal.returns-in-Read
-returns-in-Read c = rw c.in-Read.is
+pub returns-in-Some : goal.returns-in-Some
+returns-in-Some c = rw c.in-Some.is
 
-pub returns-in-Never : goal.returns-in-Never
-returns-in-Never c = rw c.in-Never.is
+pub returns-in-None : goal.returns-in-None
+returns-in-None c = rw c.in-None.is

@@ -41,29 +41,29 @@ read-number-requires c =
     record { accepted = (c.requires.0, omega arith, omega (arith, accepted-file.block-count c.args.file.now)); j_in_bounds = omega arith }
 
 -- the line is one of the arrays
-below : (c : goal.In-Cached) → c.in-Cached.c < 512
-below c = let line = c.line_of in line-below line.result c.in-Cached.c c.in-Cached.is line.ensures.1
+below : (c : goal.In-Some) → c.in-Some.c < 512
+below c = let line = c.line_of in line-below line.result c.in-Some.c c.in-Some.is line.ensures.1
 
 pub offset_bounds-held-c : goal.offset_bounds-held-c
-offset_bounds-held-c c = omega (arith, below (goal.at.offset_bounds-held-c c).In-Cached)
+offset_bounds-held-c c = omega (arith, below (goal.at.offset_bounds-held-c c).In-Some)
 
 pub bounds-held-c : goal.bounds-held-c
-bounds-held-c c = omega (arith, below (goal.at.bounds-held-c c).In-Cached)
+bounds-held-c c = omega (arith, below (goal.at.bounds-held-c c).In-Some)
 
 pub bounds-evicted-c : goal.bounds-evicted-c
-bounds-evicted-c c = omega (arith, below (goal.at.bounds-evicted-c c).In-Cached)
+bounds-evicted-c c = omega (arith, below (goal.at.bounds-evicted-c c).In-Some)
 
 pub bounds-since-c : goal.bounds-since-c
-bounds-since-c c = omega (arith, below (goal.at.bounds-since-c c).In-Cached)
+bounds-since-c c = omega (arith, below (goal.at.bounds-since-c c).In-Some)
 
-pub offset_bounds-held-c-in-Cached : goal.offset_bounds-held-c-in-Cached
-offset_bounds-held-c-in-Cached c = omega (arith, below (goal.at.offset_bounds-held-c-in-Cached c).In-Cached)
+pub offset_bounds-held-c-in-Some : goal.offset_bounds-held-c-in-Some
+offset_bounds-held-c-in-Some c = omega (arith, below (goal.at.offset_bounds-held-c-in-Some c).In-Some)
 
-pub bounds-held-c-in-Cached : goal.bounds-held-c-in-Cached
-bounds-held-c-in-Cached c = omega (arith, below (goal.at.bounds-held-c-in-Cached c).In-Cached)
+pub bounds-held-c-in-Some : goal.bounds-held-c-in-Some
+bounds-held-c-in-Some c = omega (arith, below (goal.at.bounds-held-c-in-Some c).In-Some)
 
-pub bounds-since-c-in-Cached : goal.bounds-since-c-in-Cached
-bounds-since-c-in-Cached c = omega (arith, below (goal.at.bounds-since-c-in-Cached c).In-Cached)
+pub bounds-since-c-in-Some : goal.bounds-since-c-in-Some
+bounds-since-c-in-Some c = omega (arith, below (goal.at.bounds-since-c-in-Some c).In-Some)
 
 pub loop-j-preserved : goal.loop-j-preserved
 loop-j-preserved c =
@@ -85,21 +85,21 @@ loop-j-preserved c =
     let is = sym (line.ensures.0 t cache.ensures) in
     let next : edge t outer.i + (inner.j + 1) ≡ suc (edge t outer.i + inner.j) = omega arith in
     elim c.match-line_of.branch [
-      | in-Uncached w ↦
+      | in-None w ↦
           rw (w.alone-is, w.preempted-is, w.held-is, w.since-is, next) (
             omega (arith, taken),
             omega (arith, inner.invariant.1),
             omega (arith, inner.invariant.2),
-            read-skip t ps number.result inside counted number_is outer.invariant.3 inner.invariant.3 (is ∙ w.in-Uncached.is),
+            read-skip t ps number.result inside counted number_is outer.invariant.3 inner.invariant.3 (is ∙ w.in-None.is),
           )
-      | in-Cached w ↦
-          let on = w.in-Cached.c in
+      | in-Some w ↦
+          let on = w.in-Some.c in
           rw (w.alone-is, w.preempted-is, w.held-is, w.since-is, next) (
             omega (arith, taken),
             omega (arith, inner.invariant.1, w.missed-alone.ensures.1),
             omega (arith, inner.invariant.2, w.missed-preempted.ensures.1),
-            read_more t ps number.result inside counted number_is outer.invariant.3 inner.invariant.3 on (outer.i + 1) _ _ (line-below line.result on w.in-Cached.is line.ensures.1)
-                (is ∙ w.in-Cached.is) (add-one outer.i) w.missed-alone.ensures.0 (w.missed-preempted.ensures.0 ∙ rw (w.is_lost-lost.ensures, marks on) refl),
+            read_more t ps number.result inside counted number_is outer.invariant.3 inner.invariant.3 on (outer.i + 1) _ _ (line-below line.result on w.in-Some.is line.ensures.1)
+                (is ∙ w.in-Some.is) (add-one outer.i) w.missed-alone.ensures.0 (w.missed-preempted.ensures.0 ∙ rw (w.is_lost-lost.ensures, marks on) refl),
           )
     ]
 

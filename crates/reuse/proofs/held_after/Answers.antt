@@ -34,14 +34,14 @@ read-number-requires c =
     record { accepted = (c.requires.0, omega arith, omega (arith, c.requires.1, accepted-file.block-count c.args.file.now)); j_in_bounds = omega arith }
 
 -- the line is one of the array
-below : (c : goal.In-Cached) → c.in-Cached.c < 512
-below c = let line = c.line_of in line-below line.result c.in-Cached.c c.in-Cached.is line.ensures.1
+below : (c : goal.In-Some) → c.in-Some.c < 512
+below c = let line = c.line_of in line-below line.result c.in-Some.c c.in-Some.is line.ensures.1
 
 pub offset_bounds-held-c : goal.offset_bounds-held-c
-offset_bounds-held-c c = omega (arith, below (goal.at.offset_bounds-held-c c).In-Cached)
+offset_bounds-held-c c = omega (arith, below (goal.at.offset_bounds-held-c c).In-Some)
 
 pub bounds-held-c : goal.bounds-held-c
-bounds-held-c c = omega (arith, below (goal.at.bounds-held-c c).In-Cached)
+bounds-held-c c = omega (arith, below (goal.at.bounds-held-c c).In-Some)
 
 pub loop-j-preserved : goal.loop-j-preserved
 loop-j-preserved c =
@@ -58,20 +58,20 @@ loop-j-preserved c =
     let is = sym (line.ensures.0 t c.requires.2) in
     let next : edge t outer.i + (inner.j + 1) ≡ suc (edge t outer.i + inner.j) = omega arith in
     elim c.match-line_of.branch [
-      | in-Uncached w ↦
+      | in-None w ↦
           rw (w.held-is, next) (
             omega arith,
             inner.invariant.1,
-            holds_more t outer.i inner.j number.result inside counted number_is 0 false (lies-uncached t number.result (is ∙ w.in-Uncached.is))
+            holds_more t outer.i inner.j number.result inside counted number_is 0 false (lies-uncached t number.result (is ∙ w.in-None.is))
                 refl (λ d n. refl) inner.invariant.2,
           )
-      | in-Cached w ↦
-          let on = w.in-Cached.c in
-          let low = line-below line.result on w.in-Cached.is line.ensures.1 in
+      | in-Some w ↦
+          let on = w.in-Some.c in
+          let low = line-below line.result on w.in-Some.is line.ensures.1 in
           rw (w.held-is, next) (
             omega arith,
             length-set inner.held on _ ∙ inner.invariant.1,
-            holds_more t outer.i inner.j number.result inside counted number_is on true (lies-cached t number.result on (is ∙ w.in-Cached.is))
+            holds_more t outer.i inner.j number.result inside counted number_is on true (lies-cached t number.result on (is ∙ w.in-Some.is))
                 (get_or-set_same inner.held on _ Empty (omega (arith, inner.invariant.1))) (λ d n. get_or-set_other inner.held on d _ Empty n) inner.invariant.2,
           )
     ]

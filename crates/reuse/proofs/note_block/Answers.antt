@@ -1,4 +1,5 @@
 -- `reuse::note_block` meets its contract. The loop's invariant: the lines of the reads passed have a reader.
+use Rattle.std.specs.Prelude.{Option}
 use Prim.Native.Nat.{ℕ, ◌+◌, ◌<◌}
 use mathlib.Core.Path.{◌≡◌, refl, sym, ap, ◌∙◌}
 use mathlib.Core.Bool.{Bool, cond, ◌&&◌, ◌||◌, and-false}
@@ -9,7 +10,6 @@ use lib.ListN.{length, get_or, take}
 use lib.Seq.{take_all}
 use Rattle.model.specs.Task.{Task}
 use Rattle.model.specs.Lines.{line_of, is_line, on_line, any_read}
-use Rattle.model.specs.declared.Mapping.{Mapping}
 use Rattle.model.proofs.LineStates.{any-take}
 use Rattle.taskfile.specs.File.{task_of, entry_reads}
 use Rattle.taskfile.proofs.Accepted as accepted-file
@@ -18,7 +18,7 @@ use Rattle.reuse.proofs.Readers.{first-by-both}
 use Rattle.reuse.proofs.note_block.Goals as goal
 use Rattle.reuse.proofs.note_block.Invariants.{Noted}
 
-noted_more : (t : Task) (xs : List ℕ) (n : ℕ) (readers₀ readers readers' : List ℕ) (j m : ℕ) (mapping : Mapping) → j < length xs → m ≡ get_or xs j 0
+noted_more : (t : Task) (xs : List ℕ) (n : ℕ) (readers₀ readers readers' : List ℕ) (j m : ℕ) (mapping : Option ℕ) → j < length xs → m ≡ get_or xs j 0
     → mapping ≡ line_of t m → length readers' ≡ 512 → FirstBy (λ d. is_line d mapping) n readers readers' → Noted t xs n readers₀ j readers
     → Noted t xs n readers₀ (j + 1) readers'
 unfolding on_line

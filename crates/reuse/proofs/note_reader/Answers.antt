@@ -22,25 +22,25 @@ one_reader readers line by v d h is =
     (λ n. rw (ne_eqb d line n, and-false) (get_or-set_other readers line d v 0 n))
 
 -- the line is one of the array
-below : (c : goal.In-Cached) → c.in-Cached.c < 512
+below : (c : goal.In-Some) → c.in-Some.c < 512
 below c =
-    line-below c.args.mapping c.in-Cached.c c.in-Cached.is c.requires.1
+    line-below c.args.mapping c.in-Some.c c.in-Some.is c.requires.1
 
 pub bounds-readers-c : goal.bounds-readers-c
-bounds-readers-c c = below (goal.at.bounds-readers-c c).In-Cached
+bounds-readers-c c = below (goal.at.bounds-readers-c c).In-Some
 
-pub bounds-readers-c-in-Cached : goal.bounds-readers-c-in-Cached
-bounds-readers-c-in-Cached c = below (goal.at.bounds-readers-c-in-Cached c).In-Cached
+pub bounds-readers-c-in-Some : goal.bounds-readers-c-in-Some
+bounds-readers-c-in-Some c = below (goal.at.bounds-readers-c-in-Some c).In-Some
 
-pub returns-in-Uncached : goal.returns-in-Uncached
-returns-in-Uncached c =
-    record { readers_len = c.requires.0; first_by = λ d h. rw (c.in-Uncached.is, and-false) refl }
+pub returns-in-None : goal.returns-in-None
+returns-in-None c =
+    record { readers_len = c.requires.0; first_by = λ d h. rw (c.in-None.is, and-false) refl }
 
-pub returns-in-Cached : goal.returns-in-Cached
-returns-in-Cached c =
+pub returns-in-Some : goal.returns-in-Some
+returns-in-Some c =
     let readers = c.args.readers.now in record {
-      readers_len = length-set readers c.in-Cached.c c.first_reader.result ∙ c.requires.0;
+      readers_len = length-set readers c.in-Some.c c.first_reader.result ∙ c.requires.0;
       first_by = λ d h.
-          rw c.in-Cached.is
-          (one_reader readers c.in-Cached.c c.args.by c.first_reader.result d (omega (arith, c.requires.0, below (goal.at.returns-in-Cached c).In-Cached)) c.first_reader.ensures);
+          rw c.in-Some.is
+          (one_reader readers c.in-Some.c c.args.by c.first_reader.result d (omega (arith, c.requires.0, below (goal.at.returns-in-Some c).In-Some)) c.first_reader.ensures);
     }

@@ -44,7 +44,7 @@ loop-i-preserved c =
       omega arith,
       rw c.search_block-found.ensures.looked_value.0
           (left_passed (on_line t c.args.c) l.invariant.2 (entry_reads c.args.file.now (l.i + 1)) (reads_of (drop (l.i + 1) t.blocks))
-          (block-next c.args.file.now l.i (omega arith)) (sym c.search_block-found.ensures.next_value ∙ c.in-Never.is)),
+          (block-next c.args.file.now l.i (omega arith)) (sym c.search_block-found.ensures.next_value ∙ c.in-None.is)),
     )
 
 pub returns : goal.returns

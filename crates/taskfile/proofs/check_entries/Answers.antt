@@ -1,41 +1,35 @@
--- `taskfile::check_entries` meets its contract. The loop's invariant: the lowest wrong block is the lowest of those that are left, whose
--- first is looked at next. The measure is how many are left.
+-- `taskfile::check_entries` meets its contract. The loop's invariant: the lowest wrong block is the lowest of those from k on.
+use Rattle.std.specs.Prelude.{ℕ, Option}
 use mathlib.Core.Path.{sym, ap, ◌∙◌}
-use native.Mathlib.Nat.{sub_self}
 use native.Mathlib.Omega.{arith}
-use Rattle.model.specs.Answers.{refused_at}
-use Rattle.model.specs.declared.Place.{Place}
+use Prim.Native.Nat.{◌+◌}
+use Rattle.model.specs.Answers.{accept, refused_at}
+use Rattle.model.specs.Lists.{lowest_from}
 use Rattle.model.specs.declared.Refusal.TheVariants.{WrongBlock}
-use Rattle.model.specs.declared.Verdict.TheVariants.{Accepted}
 use Rattle.taskfile.specs.File.{block_right, block_row}
 use Rattle.model.proofs.Lowest.{scan-next, scan-here, scan-end}
 use Rattle.taskfile.proofs.check_entries.Goals as goal
-
-pub loop-left-init : goal.loop-left-init
-loop-left-init c = (omega arith, rw sub_self)
 
 pub returns-then-not-block_right : goal.returns-then-not-block_right
 unfolding block_row
 returns-then-not-block_right c =
     rw (← c.requires.blocks_value.1)
     (sym
-    (ap (λ (p : Place). refused_at p WrongBlock Accepted)
-    (c.loop-left.invariant.1 ∙
-    scan-here (block_right c.args.file.now) _ _ c.loop-left-test.true
+    (ap (λ (p : Option ℕ). refused_at p WrongBlock accept)
+    (c.loop-k.invariant ∙
+    scan-here (block_right c.args.file.now) _ _ (λ e. omega arith)
     (sym c.block_right.ensures ∙ c.if-not-block_right.true))))
 
-pub loop-left-preserved : goal.loop-left-preserved
-loop-left-preserved c = (
-  omega arith,
-  c.loop-left.invariant.1 ∙
-      scan-next (block_right c.args.file.now) _ _ _ c.loop-left-test.true (omega arith)
-      (sym c.block_right.ensures ∙ c.if-not-block_right.false),
-)
+pub loop-k-preserved : goal.loop-k-preserved
+loop-k-preserved c =
+    c.loop-k.invariant ∙
+    scan-next (block_right c.args.file.now) _ _ _ (λ e. omega arith) (omega arith) (sym c.block_right.ensures ∙ c.if-not-block_right.false) ∙
+    ap (lowest_from (block_right c.args.file.now) (c.loop-k.k + 1)) (omega arith)
 
 pub returns : goal.returns
 unfolding block_row
 returns c =
     rw (← c.requires.blocks_value.1)
     (sym
-    (ap (λ (p : Place). refused_at p WrongBlock Accepted)
-    (c.loop-left.invariant.1 ∙ scan-end (block_right c.args.file.now) _ _ c.loop-left-test.false)))
+    (ap (λ (p : Option ℕ). refused_at p WrongBlock accept)
+    (c.loop-k.invariant ∙ scan-end (block_right c.args.file.now) _ _ (omega arith))))

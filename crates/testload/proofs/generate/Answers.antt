@@ -15,15 +15,15 @@ decided c = c.earlier-verdict.ensures ∙ ap₂ and_then c.check_counts-counts.e
 
 pub put_task-requires : goal.put_task-requires
 put_task-requires c =
-    let rows = accepted-rows _ _ _ _ (sym (decided (goal.at.put_task-requires c).After-earlier-verdict) ∙ c.in-Accepted.is) in
+    let rows = accepted-rows _ _ _ _ (sym (decided (goal.at.put_task-requires c).After-earlier-verdict) ∙ c.in-Ok.is) in
     let range = counts-range _ _ _ rows.0 in
     record { blocks_bound = (range.1, range.2, range.4); out_len = rows.1 }
 
-pub returns-in-Accepted : goal.returns-in-Accepted
+pub returns-in-Ok : goal.returns-in-Ok
 unfolding generated
-returns-in-Accepted c =
-    rw (← decided (goal.at.returns-in-Accepted c).After-earlier-verdict, c.in-Accepted.is) record { value = refl; out_after = c.put_task.ensures }
+returns-in-Ok c =
+    rw (← decided (goal.at.returns-in-Ok c).After-earlier-verdict, c.in-Ok.is) record { value = refl; out_after = c.put_task.ensures }
 
-pub returns-in-Refused : goal.returns-in-Refused
+pub returns-in-Err : goal.returns-in-Err
 unfolding generated
-returns-in-Refused c = rw (← decided (goal.at.returns-in-Refused c).After-earlier-verdict, c.in-Refused.is) record { value = refl; out_after = refl }
+returns-in-Err c = rw (← decided (goal.at.returns-in-Err c).After-earlier-verdict, c.in-Err.is) record { value = refl; out_after = refl }

@@ -1,11 +1,10 @@
 -- `tracing::put_blocks` meets its contract. The loop's invariant: the first `i` blocks are appended.
 use Prim.Native.Nat.{ℕ, ◌+◌, ◌-◌, ◌*◌}
-use mathlib.Core.Path.{◌≡◌, refl, ap, ◌∙◌}
+use mathlib.Core.Path.{◌≡◌, ap, ◌∙◌}
 use mathlib.Core.List.{List}
 use native.Mathlib.Omega.{arith}
 use native.Mathlib.Numerals.{add-one}
 use lib.ListN.{length, length-take, length-drop}
-use borrow.Author.Rules.{rules}
 use Rattle.block.specs.Blocks.{numbered}
 use Rattle.taskfile.specs.File.{collect, basic_bytes}
 use Rattle.writer.proofs.Laws.{appended-none}

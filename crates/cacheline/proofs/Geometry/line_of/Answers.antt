@@ -1,8 +1,8 @@
 -- `cacheline::Geometry::line_of` meets its contract: no line in the scratch range, and else the remainder.
+use Rattle.std.specs.Prelude.{Some}
 use Prim.Native.Nat.{ℕ, ◌%◌}
 use mathlib.Core.Path.{refl, sym, ap, ◌∙◌}
 use Rattle.model.specs.Lines.{line_of}
-use Rattle.model.specs.declared.Mapping.TheVariants.{Cached}
 use Rattle.cacheline.proofs.Geometry.line_of.Goals as goal
 
 pub returns-then-bypasses : goal.returns-then-bypasses
@@ -14,6 +14,6 @@ unfolding line_of
 returns-else-bypasses c = (
   λ t of.
       rw (sym (c.bypasses.ensures t of) ∙ c.if-bypasses.false)
-      (ap Cached (c.remainder.ensures.0 ∙ ap (λ (s : ℕ). c.args.number % s) of.count)),
+      (ap Some (c.remainder.ensures.0 ∙ ap (λ (s : ℕ). c.args.number % s) of.count)),
   c.remainder.ensures.1,
 )

@@ -1,6 +1,5 @@
 -- `tracing::Scan::add_byte` meets its contract, column by column.
 use mathlib.Core.Path.{sym, ◌∙◌}
-use mathlib.Core.Bool.{false}
 use native.Mathlib.Omega.{arith}
 use borrow.Author.Tests.{ne_eqb}
 use Rattle.tracing.specs.Din.{is_space}

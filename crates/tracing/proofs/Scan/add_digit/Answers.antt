@@ -1,5 +1,4 @@
 -- `tracing::Scan::add_digit` meets its contract: a digit is right in its column, and counts below 16.
-use mathlib.Core.Path.{refl}
 use native.Mathlib.Omega.{arith}
 use Rattle.tracing.proofs.Digits.{digit-small}
 use Rattle.tracing.proofs.Going.{digit-added}

@@ -5,7 +5,6 @@ use Prim.Native.Nat.{◌-◌}
 use lib.ListN.{length, drop, length-drop}
 use lib.Seq.{take_all}
 use Rattle.tracing.proofs.Going.{line-begun}
-use Rattle.tracing.proofs.Turns.{ahead_none}
 use Rattle.tracing.proofs.Scan.begin.Goals as goal
 
 pub returns-then-rest-eq32 : goal.returns-then-rest-eq32

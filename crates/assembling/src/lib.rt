@@ -64,7 +64,7 @@ fn split_run<'a, F: Fn(u8) -> bool>(bytes: &'a [u8], is_in: F) -> (&'a [u8], &'a
     bytes.split_at(bytes.len())
 }
 
-// The first word of a line, and what is behind it.
+// The first word of a line, and what follows it.
 fn next_word(line: &[u8]) -> Option<(&[u8], &[u8])>
     ensures { MatchOption result (words_of line.now ≡ []) (λ w. FirstWord line.now w.0.now w.1.now) }
 {
@@ -225,7 +225,7 @@ fn with_entry(file: &mut [u8], known: Known, kind: Kind, numbers: &[u32]) -> Kno
     counted(known, kind)
 }
 
-// Behind a line of the header, if the text can go on with it.
+// What is known after a line of the header, if the text can go on with it.
 fn take_header(known: Known, word: &[u8], numbers: &[u32]) -> Option<Known>
     requires { (known.given < 8) × (length known.header ≡ 8) }
     ensures right_value { is_some result ≡ takes_header known.given word.now numbers.now }
@@ -238,7 +238,7 @@ fn take_header(known: Known, word: &[u8], numbers: &[u32]) -> Option<Known>
     }
 }
 
-// Behind a line of a block, which is stored in the file, if the text can go on with it.
+// What is known after a line of a block, which is stored in the file, if the text can go on with it.
 fn take_entry(file: &mut [u8], known: Known, word: &[u8], numbers: &[u32]) -> Option<Known>
     requires { (length file.old ≡ 49664) × (known.blocks ≤ 64) × (known.preempters ≤ 32) }
     ensures right_value { is_some result ≡ takes_entry known.blocks known.preempters (kind_of word.now) numbers.now }
@@ -254,7 +254,7 @@ fn take_entry(file: &mut [u8], known: Known, word: &[u8], numbers: &[u32]) -> Op
     }
 }
 
-// Behind a line, if the text can go on with it: the first of its words says what the others are.
+// What is known after a line, if the text can go on with it: its first word says what the others are.
 fn take_line(file: &mut [u8], known: Known, line: &[u8]) -> Option<Known>
     requires { (length file.old ≡ 49664) × (length known.header ≡ 8) × (known.blocks ≤ 64) × (known.preempters ≤ 32) }
     ensures takes_line { (d : Draft) → Knows d known → Stored d file.old → TakesLine d (words_of line.now) result file.new }
@@ -279,7 +279,7 @@ fn is_whole(known: Known) -> bool
     (8 <= known.given) & (0 < known.blocks)
 }
 
-// Reads a text line by line, and answers what is known behind its last line, or 17 at its lowest wrong line; each block is stored in the file.
+// Reads a text line by line, and answers what is known after its last line, or 17 at its lowest wrong line; each block is stored in the file.
 fn read_lines(file: &mut [u8], text: &[u8]) -> Result<Known, Refusal>
     requires { length file.old ≡ 49664 }
     ensures refusal { refusal_of result ≡ refused_at (wrong_in text.now) WrongText accept }

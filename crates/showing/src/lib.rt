@@ -13,7 +13,7 @@ ghost use Rattle.showing.specs.Calls.{shown_text, room_row, show_answer, show_ou
 
 use model::{Header, Refusal, Scratch};
 
-// Puts a byte into an output at a place, if it goes so far, and answers the place behind it.
+// Puts a byte into an output at a place, if it goes so far, and answers the place after it.
 fn put_byte(out: &mut [u8], at: usize, byte: u8) -> usize
     requires { Room at (byte ∷ []) }
     ensures { Put out.old at (byte ∷ []) out.new result }
@@ -36,14 +36,14 @@ fn put_number(out: &mut [u8], at: usize, n: u32) -> usize
     put_byte(out, next, b'0' + (n % 10) as u8)
 }
 
-// An output, and the place behind the text that is put into it so far.
+// An output, and the place after the text that is put into it so far.
 #[derive(Drop)]
 struct Page<'a> {
     out: &'a mut [u8],
     at: usize,
 }
 
-// Each function puts a text at the place, as far as the output goes; the place is then behind it.
+// Each function puts a text at the place, as far as the output goes; the place is then after it.
 impl Page<'_> {
     fn put_byte(&mut self, byte: u8)
         requires { Room self.old.at (byte ∷ []) }

@@ -17,13 +17,9 @@ fn text_buffer() -> [u8; 262145]
 
 fn print_file(rt: &(impl Print + Eprint), text: &[u8]) -> io::Result<()> {
     let mut file = [0u8; 49664];
-    let made = assembling::assemble(text, &mut file);
-    let verdict = made.verdict;
-    match verdict {
-        Ok(()) => desk::print_page(rt, &file, made.length),
-        Err(refusal) => {
-            desk::report_refusal(rt, refusal, answers::refusal_place(refusal))
-        }
+    match assembling::assemble(text, &mut file) {
+        Ok(length) => desk::print_page(rt, &file, length),
+        Err(refusal) => desk::report_refusal(rt, refusal, refusal.place()),
     }
 }
 

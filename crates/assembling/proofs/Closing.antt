@@ -1,6 +1,6 @@
 -- A whole draft, whose blocks are stored, becomes the file of its task.
 -- Assumes nothing.
-use Rattle.std.specs.Prelude.{Err, None, Some}
+use Rattle.std.specs.Prelude.{Err, None, Ok}
 use Prim.Native.Nat.{ℕ, ◌+◌, ◌*◌, ◌≤◌}
 use mathlib.Core.Path.{◌≡◌, refl, sym, ap, ◌∙◌}
 use mathlib.Core.List.{List, [], ◌++◌}
@@ -18,7 +18,7 @@ use Rattle.assembling.specs.Drafts.{Draft, header_from, task_from, wrong_in, tas
 use Rattle.assembling.specs.Steps.{Knows, names_of, Stored}
 use Rattle.assembling.specs.Limits.{Drafted}
 use Rattle.assembling.specs.Calls.{assemble_verdict, assemble_answer, assemble_output}
-use Rattle.model.specs.Answers.{accept, output_row}
+use Rattle.model.specs.Answers.{accept, refused_at, output_row}
 use Rattle.model.specs.declared.Refusal.{Refusal}
 use Rattle.model.specs.declared.Refusal.TheVariants.{WrongText}
 use Rattle.assembling.specs.declared.Known.{Known}
@@ -74,12 +74,12 @@ module _ (d : Draft) (k : Known) (knows : Knows d k) (whole : Drafted d) where
 -- what the call answers and leaves, by its verdict
 
 pub assemble-refused : (text out : List ℕ) (x : Refusal) → assemble_verdict text out ≡ Err x
-    → (assemble_answer text out ≡ record { verdict = Err x; length = 0 }) × (assemble_output text out ≡ out)
+    → (assemble_answer text out ≡ Err x) × (assemble_output text out ≡ out)
 unfolding assemble_answer assemble_output
 assemble-refused text out x e = (rw e refl, rw e refl)
 
 pub assemble-accepted : (text out : List ℕ) → assemble_verdict text out ≡ accept
-    → (assemble_answer text out ≡ record { verdict = accept; length = length (file_of (task_in text)) }) ×
+    → (assemble_answer text out ≡ Ok (length (file_of (task_in text)))) ×
     (assemble_output text out ≡ file_of (task_in text) ++ drop (length (file_of (task_in text))) out)
 unfolding assemble_answer assemble_output
 assemble-accepted text out e = (rw e refl, rw e refl)
@@ -88,10 +88,11 @@ pub output-refused : (text out : List ℕ) (x : Refusal) → output_row 49664 (l
 unfolding assemble_verdict
 output-refused text out x e = rw e refl
 
-pub line_refused : (text out : List ℕ) (i : ℕ) → output_row 49664 (length out) ≡ accept → wrong_in text ≡ Some i → assemble_verdict text out ≡ Err (WrongText i)
-unfolding assemble_verdict
-line_refused text out i e w = rw (e, w) refl
+module _ (text out : List ℕ) (checked : output_row 49664 (length out) ≡ accept) where
+  pub text-refused : (x : Refusal) → refused_at (wrong_in text) WrongText accept ≡ Err x → assemble_verdict text out ≡ Err x
+  unfolding assemble_verdict
+  text-refused x e = rw (checked, e) refl
 
-pub text-accepted : (text out : List ℕ) → output_row 49664 (length out) ≡ accept → wrong_in text ≡ None → assemble_verdict text out ≡ accept
-unfolding assemble_verdict
-text-accepted text out e w = rw (e, w) refl
+  pub text-accepted : wrong_in text ≡ None → assemble_verdict text out ≡ accept
+  unfolding assemble_verdict
+  text-accepted w = rw (checked, w) refl

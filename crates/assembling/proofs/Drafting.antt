@@ -1,11 +1,12 @@
 -- A draft with one line more: its numbers in the array, and its block in the buffer.
 -- Assumes nothing.
-use Prim.Native.Nat.{ℕ, ◌+◌, ◌-◌, ◌*◌, ◌≤◌, ◌<◌}
+use Prim.Native.Nat.{ℕ, suc, ◌+◌, ◌-◌, ◌*◌, ◌≤◌, ◌<◌}
+use Rattle.std.specs.Option.{is_some}
+use Rattle.std.proofs.Common.{Option, None, Some}
 use mathlib.Core.Path.{◌≡◌, refl, sym, ap, ap₂, ◌∙◌}
 use mathlib.Core.Bool.{Bool, true, false, cond, ◌&&◌, and-eq-true_iff, and-false, false≢true}
 use mathlib.Core.List.{List, [], ◌∷◌, ◌++◌, map, map-append, append_assoc, append-nil}
 use native.Mathlib.Decide.{dec_le}
-use native.Mathlib.Numerals.{add-one}
 use native.Mathlib.Omega.{arith}
 use borrow.Author.Tests.{eqb-true, ltb-true, eq-eqb, ne_eqb, lt-leb, le-leb, lt-ltb, le-ltb}
 use lib.Dec.{eqb, leb, ltb}
@@ -17,12 +18,11 @@ use Rattle.taskfile.specs.File.{basic_bytes, preempter_bytes}
 use Rattle.writer.specs.Writing.{stored_reads}
 use Rattle.writer.proofs.Laws.{appended-more}
 use Rattle.assembling.specs.Drafts.{Draft, all_numbers, block_from, preempter_from, header_word, header_right, takes_header, kind_of, room_for, takes_entry, takes}
-use Rattle.assembling.specs.Drafts.{with_numbers, with_entry, with_words}
+use Rattle.assembling.specs.Drafts.{with_numbers, with_entry, with_kind, with_words}
 use Rattle.assembling.specs.Steps.{Knows, entry_named, names_of, Stored, TakesLine}
 use Rattle.assembling.specs.declared.Kind.{Kind}
-use Rattle.assembling.specs.declared.Kind.TheVariants.{Basic, Armed, Preempting, Unknown}
+use Rattle.assembling.specs.declared.Kind.TheVariants.{Basic, Armed, Preempting}
 use Rattle.assembling.specs.declared.Known.{Known}
-use Rattle.assembling.specs.declared.Taken.{Taken}
 use Rattle.model.specs.Lists.{same_list}
 use Rattle.decimals.specs.Decimals.{value}
 
@@ -49,27 +49,29 @@ other-one k ns e h = eqb-true _ _ ((and-eq-true_iff (eqb (length ns) 1) _).0 (rw
 
 module _ (d : Draft) (k : Known) (knows : Knows d k) (ns : List ℕ) where
   pub knows-one : length ns ≡ 1 → k.given < 8
-      → Knows (with_numbers d ns) (record { given = k.given + 1; header = set k.header k.given (get_or ns 0 0); blocks = k.blocks; preempters = k.preempters })
+      → Knows (with_numbers d ns) (record { given = k.given + length ns; header = set k.header k.given (get_or ns 0 0); blocks = k.blocks; preempters = k.preempters })
   knows-one e h =
+      let next : k.given + length ns ≡ suc k.given = omega arith in
       record {
         given = omega (arith, knows.given, length-append d.numbers ns);
-        header = rw (add-one, take-suc-set k.header k.given (get_or ns 0 0) (omega (arith, knows.room)), knows.header) (ap (λ (l : List ℕ). d.numbers ++ l) (sym (one_number ns e)));
+        header = rw (next, take-suc-set k.header k.given (get_or ns 0 0) (omega (arith, knows.room)), knows.header) (ap (λ (l : List ℕ). d.numbers ++ l) (sym (one_number ns e)));
         room = length-set k.header k.given (get_or ns 0 0) ∙ knows.room;
         blocks = knows.blocks;
         preempters = knows.preempters;
       }
 
   pub knows-two : length ns ≡ 2 → k.given ≡ 6
-      → Knows (with_numbers d ns) (record { given = 8; header = set (set k.header k.given (get_or ns 0 0)) 7 (get_or ns 1 0); blocks = k.blocks; preempters = k.preempters })
+      → Knows (with_numbers d ns) (record { given = k.given + length ns; header = set (set k.header k.given (get_or ns 0 0)) 7 (get_or ns 1 0); blocks = k.blocks; preempters = k.preempters })
   knows-two e h =
       let first = set k.header k.given (get_or ns 0 0) in
       let long : length first ≡ 8 = length-set k.header k.given (get_or ns 0 0) ∙ knows.room in
       let six : take 7 first ≡ d.numbers ++ (get_or ns 0 0 ∷ []) =
       rw h (take-suc-set k.header 6 (get_or ns 0 0) (omega (arith, knows.room)) ∙ ap (λ (l : List ℕ). l ++ (get_or ns 0 0 ∷ [])) (rw h at knows.header)) in
+      let eight : k.given + length ns ≡ 8 = omega arith in
       record {
         given = omega (arith, knows.given, length-append d.numbers ns);
         header =
-            take-suc-set first 7 (get_or ns 1 0) (omega arith) ∙ ap (λ (l : List ℕ). l ++ (get_or ns 1 0 ∷ [])) six ∙ append_assoc d.numbers (get_or ns 0 0 ∷ []) (get_or ns 1 0 ∷ []) ∙
+            ap (λ (n : ℕ). take n (set first 7 (get_or ns 1 0))) eight ∙ take-suc-set first 7 (get_or ns 1 0) (omega arith) ∙ ap (λ (l : List ℕ). l ++ (get_or ns 1 0 ∷ [])) six ∙ append_assoc d.numbers (get_or ns 0 0 ∷ []) (get_or ns 1 0 ∷ []) ∙
             ap (λ (l : List ℕ). d.numbers ++ l) (sym (two-numbers ns e));
         room = length-set first 7 (get_or ns 1 0) ∙ long;
         blocks = knows.blocks;
@@ -105,7 +107,6 @@ names_more d Armed ns h =
     rw (no-preempters d h, append-nil, append-nil, map-append) refl
 names_more d Preempting ns h =
     rw (map-append) (sym (append_assoc (map basic_bytes d.blocks) (map preempter_bytes d.preempters) _))
-names_more d Unknown ns h = absurd (false≢true h)
 
 pub count-names : (d : Draft) → length (names_of d) ≡ length d.blocks + length d.preempters
 count-names d =
@@ -133,7 +134,6 @@ unfolding room_for
 room-left Basic b p h k l = omega (arith, room-block b p h)
 room-left Armed b p h k l = omega (arith, room-block b p h)
 room-left Preempting b p h k l = omega (arith, room-preempter b p h)
-room-left Unknown b p h k l = absurd (false≢true h)
 
 -- and what is counted
 
@@ -180,16 +180,12 @@ counts-preempter k h l = (
   omega (arith, (room-preempter k.blocks k.preempters h).1),
 )
 
-pub counts-unknown : (k r : Known) → room_for Unknown k.blocks k.preempters ≡ true → Counts k Unknown r
-unfolding room_for
-counts-unknown k r h = absurd (false≢true h)
-
 -- what the code makes of a line
 
 pub empty-line : (d : Draft) (k : Known) (words : List (List ℕ)) (file : List ℕ) → words ≡ [] → Knows d k → Stored d file
-    → TakesLine d words (record { right = true; known = k }) file
+    → TakesLine d words (Some k) file
 unfolding takes with_words
-empty-line d k words file e knows stored = rw e (record { right = refl; known = λ _. knows; stored = λ _. stored })
+empty-line d k words file e knows stored = rw e (record { right = refl; known = λ r p. let is : k ≡ r = cc in rw (← is) (knows, stored) })
 
 module _ (d : Draft) (k : Known) (knows : Knows d k) (words : List (List ℕ)) (w : List ℕ) (ws : List (List ℕ)) (split : words ≡ w ∷ ws) where
   -- a line of too many numbers is no header's and no block's
@@ -213,11 +209,15 @@ module _ (d : Draft) (k : Known) (knows : Knows d k) (words : List (List ℕ)) (
           ≡ false
       go true true = rw (two, and-false)
       go true false = rw (one, and-false)
-      go false six = rw (few, and-false)
+      go false six = entry (kind_of w)
+        where
+          entry : (kind : Option Kind) → takes_entry (length d.blocks) (length d.preempters) kind ns ≡ false
+          entry None = refl
+          entry (Some kind) = rw (few, and-false)
 
-  pub wrong-numbers : (file : List ℕ) → (all_numbers ws && leb (length ws) 125) ≡ false → TakesLine d words (record { right = false; known = k }) file
+  pub wrong-numbers : (file : List ℕ) → (all_numbers ws && leb (length ws) 125) ≡ false → TakesLine d words None file
   unfolding takes
-  wrong-numbers file h = record { right = sym (rw split (go (all_numbers ws) (dec_le (length ws) 125) h)); known = λ t. absurd (false≢true t); stored = λ t. absurd (false≢true t) }
+  wrong-numbers file h = record { right = sym (rw split (go (all_numbers ws) (dec_le (length ws) 125) h)); known = λ r p. let z : ◌≡◌ {A = ℕ} 0 1 = cc in absurd (omega arith) }
     where
       go : (a : Bool) → Dec (length ws ≤ 125) → (a && leb (length ws) 125) ≡ false
           → (a && cond (ltb (length d.numbers) 8) (takes_header (length d.numbers) w (map value ws)) (takes_entry (length d.blocks) (length d.preempters) (kind_of w) (map value ws))) ≡ false
@@ -225,29 +225,27 @@ module _ (d : Draft) (k : Known) (knows : Knows d k) (words : List (List ℕ)) (
       go true (yes l) e = absurd (false≢true (sym e ∙ le-leb (length ws) 125 l))
       go true (no l) e = too_many (map value ws) (rw length-map (omega arith))
 
-  module _ (right : (all_numbers ws && leb (length ws) 125) ≡ true) (ns : List ℕ) (same : ns ≡ map value ws) (r : Taken) (file : List ℕ) where
+  module _ (right : (all_numbers ws && leb (length ws) 125) ≡ true) (ns : List ℕ) (same : ns ≡ map value ws) (r : Option Known) (file : List ℕ) where
     numbers : all_numbers ws ≡ true
     numbers = ((and-eq-true_iff (all_numbers ws) (leb (length ws) 125)).0 right).0
 
-    pub header-line : k.given < 8 → Stored d file → r.right ≡ takes_header k.given w ns → (r.right ≡ true → Knows (with_numbers d ns) r.known) → TakesLine d words r file
+    pub header-line : k.given < 8 → Stored d file → is_some r ≡ takes_header k.given w ns → ((t : Known) → r ≡ Some t → Knows (with_numbers d ns) t) → TakesLine d words r file
     unfolding takes with_words
     header-line h stored e f =
         let phase : ltb (length d.numbers) 8 ≡ true = lt-ltb (length d.numbers) 8 (omega (arith, knows.given)) in
         rw (split)
         (record {
           right = rw (numbers, phase, ← same, ← knows.given) e;
-          known = λ t. rw (phase, ← same) (f t);
-          stored = λ t. rw phase stored;
+          known = λ t p. rw (phase, ← same) (f t p, stored);
         })
 
-    pub entry-line : 8 ≤ k.given → r.right ≡ takes_entry k.blocks k.preempters (kind_of w) ns
-        → (r.right ≡ true → Knows (with_entry d (kind_of w) ns) r.known × Stored (with_entry d (kind_of w) ns) file) → TakesLine d words r file
+    pub entry-line : 8 ≤ k.given → is_some r ≡ takes_entry k.blocks k.preempters (kind_of w) ns
+        → ((t : Known) → r ≡ Some t → Knows (with_kind d (kind_of w) ns) t × Stored (with_kind d (kind_of w) ns) file) → TakesLine d words r file
     unfolding takes with_words
     entry-line h e f =
         let phase : ltb (length d.numbers) 8 ≡ false = le-ltb (length d.numbers) 8 (omega (arith, knows.given)) in
         rw (split)
         (record {
           right = rw (numbers, phase, ← same, ← knows.blocks, ← knows.preempters) e;
-          known = λ t. rw (phase, ← same) (f t).0;
-          stored = λ t. rw (phase, ← same) (f t).1;
+          known = λ t p. rw (phase, ← same) (f t p);
         })

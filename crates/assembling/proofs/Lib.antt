@@ -7,3 +7,4 @@ pub mod Closing
 pub mod Written
 pub mod Round
 pub mod Ways
+pub mod Equal

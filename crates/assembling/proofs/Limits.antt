@@ -2,6 +2,7 @@
 -- Assumes nothing.
 use Rattle.std.specs.Prelude.{None, Some}
 use Prim.Native.Nat.{ℕ, suc, ◌+◌, ◌^◌, ◌≤◌, ◌<◌}
+use Rattle.std.proofs.Common.{Option, None, Some}
 use mathlib.Core.Path.{◌≡◌, refl}
 use mathlib.Core.Bool.{Bool, true, false, cond, ◌&&◌, and-eq-true_iff, false≢true}
 use mathlib.Core.Logic.{by_cases}
@@ -18,9 +19,9 @@ use Rattle.block.proofs.Each.{each_at, each_append}
 use Rattle.taskfile.specs.File.{counts_in_range, scratch_in_range, header_in_range, header_numbers, EntryWithin, Within}
 use Rattle.decimals.specs.Decimals.{all_digits, value}
 use Rattle.assembling.specs.Words.{words_of}
-use Rattle.assembling.specs.Drafts.{Draft, no_draft, is_number, all_numbers, header_word, header_right, takes_header, kind_of, room_for, takes_entry, takes, block_from, preempter_from, with_numbers, with_entry, with_words, whole, wrong_line, drafted, wrong_in, draft_in, task_from}
+use Rattle.assembling.specs.Drafts.{Draft, no_draft, is_number, all_numbers, header_word, header_right, takes_header, kind_of, room_for, takes_entry, takes, block_from, preempter_from, with_numbers, with_entry, with_kind, with_words, whole, wrong_line, drafted, wrong_in, draft_in, task_from}
 use Rattle.assembling.specs.declared.Kind.{Kind}
-use Rattle.assembling.specs.declared.Kind.TheVariants.{Basic, Armed, Preempting, Unknown}
+use Rattle.assembling.specs.declared.Kind.TheVariants.{Basic, Armed, Preempting}
 use Rattle.assembling.specs.Limits.{Small, Right, Drafted}
 use Rattle.assembling.proofs.Drafting.{scratch-two, other-one}
 
@@ -167,10 +168,10 @@ unfolding room_for with_entry
 entry_more d Basic ns r w room = block_more d false ns r w room
 entry_more d Armed ns r w room = block_more d true ns r w room
 entry_more d Preempting ns r w room = preempter-more d ns r w room
-entry_more d Unknown ns r w room = absurd (false≢true room)
 
-right-entry : (d : Draft) (kind : Kind) (ns : List ℕ) → Right d → Each Small ns → takes_entry (length d.blocks) (length d.preempters) kind ns ≡ true → Right (with_entry d kind ns)
-right-entry d kind ns r small h =
+right-entry : (d : Draft) (kind : Option Kind) (ns : List ℕ) → Right d → Each Small ns → takes_entry (length d.blocks) (length d.preempters) kind ns ≡ true → Right (with_kind d kind ns)
+right-entry d None ns r small h = absurd (false≢true h)
+right-entry d (Some kind) ns r small h =
     let some = (and-eq-true_iff (leb 1 (length ns)) _).0 h in
     let few = (and-eq-true_iff (leb (length ns) 125) _).0 some.1 in
     entry_more d kind ns r (entry-within ns small (leb-true _ _ some.0) (leb-true _ _ few.0)) few.1
@@ -188,7 +189,7 @@ right-more d (w ∷ ws) r h = go (ltb (length d.numbers) 8) refl both.1
 
     go : (z : Bool) → ltb (length d.numbers) 8 ≡ z
         → cond z (takes_header (length d.numbers) w (map value ws)) (takes_entry (length d.blocks) (length d.preempters) (kind_of w) (map value ws)) ≡ true
-        → Right (cond z (with_numbers d (map value ws)) (with_entry d (kind_of w) (map value ws)))
+        → Right (cond z (with_numbers d (map value ws)) (with_kind d (kind_of w) (map value ws)))
     go true e t = right-header d r (map value ws) (values-small ws both.0) (ltb-true _ 8 e) ((and-eq-true_iff (same_list w (header_word (length d.numbers))) _).0 t).1
     go false e t = right-entry d (kind_of w) (map value ws) r (values-small ws both.0) t
 

@@ -1,25 +1,21 @@
 -- The numbers of a line's words: what a word says, and the words read so far.
 -- Assumes nothing.
-use Rattle.std.specs.Prelude.{None, Option, Some}
-use Prim.Native.Nat.{ℕ, suc, ◌+◌, ◌≤◌, ◌<◌}
+use Prim.Native.Nat.{ℕ, ◌+◌, ◌≤◌, ◌<◌}
+use Rattle.std.proofs.Common.{Option, None, Some}
 use mathlib.Core.Path.{◌≡◌, refl, sym, ap, ◌∙◌}
-use mathlib.Core.Bool.{Bool, true, false, cond, ◌&&◌, and-eq-true_iff, and-false, and_assoc, false≢true}
+use mathlib.Core.Bool.{Bool, true, false, cond, ◌&&◌, and-eq-true_iff, and-false, and_assoc}
 use mathlib.Core.Logic.{by_cases}
 use mathlib.Core.List.{List, [], ◌∷◌, ◌++◌, map, append_assoc, append-nil}
 use native.Mathlib.Decide.{dec_le}
 use native.Mathlib.Numerals.{add-one}
 use native.Mathlib.Omega.{arith}
-use borrow.Author.Tests.{le-leb, lt-leb, lt-ltb, leb-true, ne_eqb}
-use lib.Dec.{eqb, leb, ltb}
-use lib.ListN.{length, get_or, set, take, drop, length-append, length-set, drop_of_length-le, get_or-eq_default}
-use lib.Seq.{take-suc-set, drop-cons}
-use Rattle.model.specs.Lists.{same_list}
-use Rattle.model.proofs.Lists.{same-list}
+use borrow.Author.Tests.{le-leb, lt-leb, lt-ltb, leb-true}
+use lib.Dec.{leb, ltb}
+use lib.ListN.{length, set, take, length-append, length-set}
+use lib.Seq.{take-suc-set}
 use Rattle.decimals.specs.Decimals.{all_digits, value, decimal_of}
-use Rattle.assembling.specs.Drafts.{is_number, all_numbers, header_words, header_word}
-use Rattle.assembling.specs.Words.{words_of}
-use Rattle.assembling.specs.declared.Word.{Word}
-use Rattle.assembling.specs.Steps.{number_in, FirstWord, NumbersRead}
+use Rattle.assembling.specs.Drafts.{is_number, all_numbers}
+use Rattle.assembling.specs.Steps.{number_in, NumbersRead}
 
 -- a word that says a number of 64 bits says it here too if it is small enough
 
@@ -55,7 +51,7 @@ number-none w e = by_cases (dec_le (value w) 4294967295) small (λ h. large (ltb
     large a false h = rw and-false
 
     go : (a b : Bool) → cond ((a && b) && true) (Some (value w)) None ≡ None → cond (a && (b && true)) (Some (value w)) None ≡ None
-    go true true e = e
+    go true true e = let z : ◌≡◌ {A = ℕ} 0 1 = cc in absurd (omega arith)
     go true false e = refl
     go false b e = refl
 
@@ -138,64 +134,27 @@ seen_more {words} {left} {numbers} {count} w n s e h =
       room = length-set numbers count n ∙ s.room;
     }
 
-pub seen_all : {words : List (List ℕ)} {numbers : List ℕ} {count : ℕ} → Seen words [] numbers count → NumbersRead words numbers (record { right = true; count = count })
+pub seen_all : {words : List (List ℕ)} {numbers : List ℕ} {count : ℕ} → Seen words [] numbers count → NumbersRead words numbers (Some count)
 seen_all {words} {numbers} {count} s =
     let same : words ≡ s.seen = s.all ∙ append-nil s.seen in
-    let long : length words ≡ count = ap length same ∙ s.long in
     record {
       right = sym (rw (same, s.right, le-leb (length s.seen) 125 (omega (arith, s.long, s.few))) refl);
-      count = λ _. sym long;
-      held = λ _. s.held ∙ ap (map value) (sym same);
-      few = s.few;
+      held = λ n e. let is : count ≡ n = cc in rw (← is) (s.few, s.held ∙ ap (map value) (sym same));
       long = s.room;
     }
 
-refused : (words : List (List ℕ)) (numbers : List ℕ) (count : ℕ) → (all_numbers words && leb (length words) 125) ≡ false → count ≤ 125 → length numbers ≡ 125
-    → NumbersRead words numbers (record { right = false; count = count })
-refused words numbers count e h l =
-    record { right = sym e; count = λ t. absurd (false≢true t); held = λ t. absurd (false≢true t); few = h; long = l }
+refused : (words : List (List ℕ)) (numbers : List ℕ) → (all_numbers words && leb (length words) 125) ≡ false → length numbers ≡ 125
+    → NumbersRead words numbers None
+refused words numbers e l = record { right = sym e; held = λ n p. let z : ◌≡◌ {A = ℕ} 0 1 = cc in absurd (omega arith); long = l }
 
 pub seen-wrong : {words left : List (List ℕ)} {numbers : List ℕ} {count : ℕ} (w : List ℕ) → 0 < length w → Seen words (w ∷ left) numbers count → number_in w ≡ None
-    → NumbersRead words numbers (record { right = false; count = count })
+    → NumbersRead words numbers None
 unfolding all_numbers
 seen-wrong {words} {left} {numbers} {count} w h s e =
-    refused words numbers count
-    (rw (s.all, numbers-append s.seen (w ∷ left), said-none w h e, and-false)) s.few s.room
+    refused words numbers (rw (s.all, numbers-append s.seen (w ∷ left), said-none w h e, and-false)) s.room
 
 pub seen-full : {words left : List (List ℕ)} {numbers : List ℕ} {count : ℕ} (w : List ℕ) → Seen words (w ∷ left) numbers count → count ≡ 125
-    → NumbersRead words numbers (record { right = false; count = count })
+    → NumbersRead words numbers None
 seen-full {words} {left} {numbers} {count} w s e =
     let long : 125 < length words = omega (arith, ap length s.all, length-append s.seen (w ∷ left), s.long) in
-    refused words numbers count (rw (lt-leb (length words) 125 long) (and-false (all_numbers words))) s.few s.room
-
--- and so where a line has another word
-pub full_line : {words : List (List ℕ)} {line numbers : List ℕ} {from count : ℕ} {w : Word} → FirstWord line from w → (w.start ≡ w.end → ⊥) → Seen words (words_of (drop from line)) numbers count → count ≡ 125
-    → NumbersRead words numbers (record { right = false; count = count })
-full_line {w = w} first h s e = seen-full _ (rw (first.found (omega (arith, first.rising))) at s) e
-
--- two words, byte by byte
-
-pub same_next : (xs ys : List ℕ) (i : ℕ) → i < length xs → length xs ≡ length ys
-    → same_list (drop i xs) (drop i ys) ≡ (eqb (get_or xs i 0) (get_or ys i 0) && same_list (drop (i + 1) xs) (drop (i + 1) ys))
-unfolding same_list
-same_next xs ys i h e = rw (add-one, drop-cons xs i 0 h, drop-cons ys i 0 (omega arith))
-
-pub same_end : (xs ys : List ℕ) (i : ℕ) → length xs ≤ i → length xs ≡ length ys → same_list (drop i xs) (drop i ys) ≡ true
-unfolding same_list
-same_end xs ys i h e = rw (drop_of_length-le xs h, drop_of_length-le ys {i = i} (omega arith)) refl
-
-pub same-long : (xs ys : List ℕ) → (length xs ≡ length ys → ⊥) → same_list xs ys ≡ false
-same-long xs ys h = go (same_list xs ys) refl
-  where
-    go : (b : Bool) → same_list xs ys ≡ b → same_list xs ys ≡ false
-    go true e = absurd (h (ap length (same-list xs ys e)))
-    go false e = e
-
--- no word is that of a header line behind the seventh
-pub no-header-word : (w : List ℕ) (k : ℕ) → 7 ≤ k → eqb (length w) 0 ≡ same_list w (header_word k)
-unfolding same_list
-no-header-word w k h = rw (get_or-eq_default header_words [] {n = k} h) (go w)
-  where
-    go : (w : List ℕ) → eqb (length w) 0 ≡ same_list w []
-    go [] = refl
-    go (x ∷ xs) = ne_eqb (suc (length xs)) 0 (λ e. omega arith)
+    refused words numbers (rw (lt-leb (length words) 125 long) (and-false (all_numbers words))) s.room

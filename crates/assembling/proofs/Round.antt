@@ -2,6 +2,7 @@
 -- Assumes nothing.
 use Rattle.std.specs.Prelude.{None, Some}
 use Prim.Native.Nat.{ℕ, suc, ◌+◌, ◌≤◌, ◌<◌}
+use Rattle.std.proofs.Common.{Some}
 use mathlib.Core.Path.{◌≡◌, refl, sym, ap, subst, ◌∙◌}
 use mathlib.Core.Bool.{Bool, true, false, cond, ◌&&◌, and-eq-true_iff}
 use mathlib.Core.List.{List, [], ◌∷◌, ◌++◌, map, append_assoc, append-nil}
@@ -84,7 +85,7 @@ module _ (d : Draft) (i : ℕ) (w ns rest : List ℕ) (is : IsWord w) (small : E
       let values = spelled-values ns small in
       rw (phase, values) at (goes-line (rw (numbers, phase, values, s, r) refl))
 
-  goes-entry : (kind : Kind) → 8 ≤ length d.numbers → kind_of w ≡ kind → takes_entry (length d.blocks) (length d.preempters) kind ns ≡ true
+  goes-entry : (kind : Kind) → 8 ≤ length d.numbers → kind_of w ≡ Some kind → takes_entry (length d.blocks) (length d.preempters) (Some kind) ns ≡ true
       → Goes d (with_entry d kind ns) i (suc i) (line_text w ns ++ rest) rest
   unfolding takes with_words
   goes-entry kind h s r =

@@ -1,66 +1,33 @@
 -- Runs of bytes of one kind, and how they cut a text into lines and a line into words.
 -- Assumes nothing.
-use Prim.Native.Nat.{ℕ, zero, suc, ◌+◌, ◌-◌, ◌≤◌, ◌<◌}
+use Prim.Native.Nat.{ℕ, suc, ◌<◌}
 use mathlib.Core.Path.{◌≡◌, refl, sym, ap, ◌∙◌}
 use mathlib.Core.Bool.{Bool, true, false, not, ◌&&◌, and-eq-true_iff, false≢true}
-use mathlib.Core.Logic.{by_cases}
 use mathlib.Core.List.{List, [], ◌∷◌, ◌++◌, append-nil}
-use native.Mathlib.Nat.{le_refl}
-use native.Mathlib.Decide.{dec_lt}
-use native.Mathlib.Numerals.{add-one}
 use native.Mathlib.Omega.{arith}
 use lib.Dec.{eqb}
 use borrow.Author.Tests.{eqb-true}
-use lib.ListN.{length, get_or, drop, length-drop, take-append-drop}
-use lib.Seq.{drop-cons, drop-drop, drop-nil, drop-length, length-take-le, take-suc, get_or-drop}
+use lib.ListN.{length, get_or, drop, length-append}
 use Rattle.showing.specs.Text.{line_feed}
 use Rattle.assembling.specs.Words.{is_blank, is_hash, is_word_byte, is_line_byte, in_front, lines_of, goes_on, words_of}
-use Rattle.assembling.specs.Steps.{all_are, between, Spans, FirstWord}
+use Rattle.assembling.specs.Steps.{all_are, Splits, FirstWord}
 
--- one byte more at the end of a run
-all-last : (f : ℕ → Bool) (xs : List ℕ) (b : ℕ) → all_are f xs ≡ true → f b ≡ true → all_are f (xs ++ (b ∷ [])) ≡ true
+-- the bytes of a run by a test f
+pub record Run (f : ℕ → Bool) (bytes run rest : List ℕ) : Type 0 where
+  pub whole : run ++ rest ≡ bytes
+  pub all : all_are f run ≡ true
+  pub ends : 0 < length rest → f (get_or rest 0 0) ≡ false
+
+each-right : (f : ℕ → Bool) (run : List ℕ) → ((k : ℕ) → k < length run → f (get_or run k 0) ≡ true) → all_are f run ≡ true
 unfolding all_are
-all-last f [] b h k = rw k
-all-last f (x ∷ xs) b h k =
-    let both = (and-eq-true_iff (f x) (all_are f xs)).0 h in
-    rw both.0 (all-last f xs b both.1 k)
+each-right f [] h = refl
+each-right f (x ∷ xs) h =
+    let first : f x ≡ true = h 0 (omega arith) in
+    rw first (each-right f xs (λ k l. h (suc k) (omega arith)))
 
--- a run so far: from a place up to i
-pub record Runs (f : ℕ → Bool) (text : List ℕ) (from i : ℕ) : Type 0 where
-  pub later : from ≤ i
-  pub within : i ≤ length text
-  pub all : all_are f (between text from i) ≡ true
-
-pub run_none : (f : ℕ → Bool) (text : List ℕ) (from : ℕ) → from ≤ length text → Runs f text from from
-unfolding all_are
-run_none f text from h =
-    let none : from - from ≡ 0 = omega arith in
-    record { later = le_refl from; within = h; all = rw none refl }
-
-pub run_more : (f : ℕ → Bool) (text : List ℕ) (from i : ℕ) → Runs f text from i → i < length text → f (get_or text i 0) ≡ true → Runs f text from (i + 1)
-run_more f text from i r h e =
-    let next : i + 1 - from ≡ suc (i - from) = omega (arith, r.later) in
-    let there : from + (i - from) ≡ i = omega (arith, r.later) in
-    let inside : i - from < length (drop from text) = omega (arith, length-drop from text, r.later) in
-    let byte : get_or (drop from text) (i - from) 0 ≡ get_or text i 0 = get_or-drop from text (i - from) 0 ∙ ap (λ (k : ℕ). get_or text k 0) there in
-    record {
-      later = omega (arith, r.later);
-      within = omega arith;
-      all = rw (next, take-suc (drop from text) (i - from) 0 inside) (all-last f (between text from i) _ r.all (rw byte e));
-    }
-
-pub run_ends : (f : ℕ → Bool) (text : List ℕ) (from i : ℕ) → Runs f text from i → f (get_or text i 0) ≡ false → Spans f text from i
-run_ends f text from i r e = record { later = r.later; within = r.within; all = r.all; ends = λ h. e }
-
-pub run_out : (f : ℕ → Bool) (text : List ℕ) (from i : ℕ) → Runs f text from i → length text ≤ i → Spans f text from i
-run_out f text from i r e = record { later = r.later; within = r.within; all = r.all; ends = λ h. absurd (omega arith) }
-
--- a text from a place on is a run and what follows it
-pub run-split : (text : List ℕ) (from to : ℕ) → from ≤ to → drop from text ≡ between text from to ++ drop to text
-run-split text from to h =
-    let there : from + (to - from) ≡ to = omega arith in
-    sym (take-append-drop (to - from) (drop from text)) ∙
-    ap (λ (rest : List ℕ). between text from to ++ rest) (drop-drop (to - from) from text ∙ ap (λ (k : ℕ). drop k text) there)
+pub run_of : (f : ℕ → Bool) (bytes run rest : List ℕ) → Splits (λ b t. t ≡ f b) bytes run rest → Run f bytes run rest
+run_of f bytes run rest s =
+    record { whole = s.whole; all = each-right f run (λ k h. sym (s.all k h)); ends = λ h. sym (s.ends h) }
 
 -- bytes of a word are neither blanks nor the beginning of a comment, and blanks aren't either
 
@@ -110,44 +77,45 @@ word_cut x (y ∷ ys) rest h g =
     rw (byte.1, byte.0, next, word_cut y ys rest both.1 g)
 
 -- where a run ends no byte of it follows
-stops : (line : List ℕ) (start end : ℕ) → Spans is_word_byte line start end → goes_on (drop end line) ≡ false
+stops : (l : List ℕ) → (0 < length l → is_word_byte (get_or l 0 0) ≡ false) → goes_on l ≡ false
 unfolding goes_on
-stops line start end s = by_cases (dec_lt end (length line)) (λ h. rw (drop-cons line end 0 h) (s.ends h)) (λ h. rw (at-end h) refl)
-  where
-    at-end : (end < length line → ⊥) → drop end line ≡ []
-    at-end h = let e : end ≡ length line = omega (arith, s.within) in rw e (drop-length line)
+stops [] h = refl
+stops (x ∷ xs) h = h (omega arith)
+
+-- behind blanks, bytes that begin with none of a word have no word
+ended : (l : List ℕ) → (0 < length l → is_blank (get_or l 0 0) ≡ false) → (0 < length l → is_word_byte (get_or l 0 0) ≡ false) → words_of l ≡ []
+unfolding words_of
+ended [] b w = refl
+ended (x ∷ xs) b w =
+    let blank : is_blank x ≡ false = b (omega arith) in
+    let word : is_word_byte x ≡ false = w (omega arith) in
+    rw (hash-byte x word blank) refl
+
+pub nothing : (l : List ℕ) → length l ≡ 0 → l ≡ []
+nothing [] e = refl
+nothing (x ∷ xs) e = absurd (omega arith)
 
 -- a run of blanks and then one of a word's bytes are the first word, if it has one
-module _ (line : List ℕ) (at start end : ℕ) (blanks : Spans is_blank line at start) (word : Spans is_word_byte line start end) where
-  skipped : words_of (drop at line) ≡ words_of (drop start line)
-  skipped = ap words_of (run-split line at start blanks.later) ∙ blanks-skipped (between line at start) (drop start line) blanks.all
+module _ {line blanks rest word left : List ℕ} (first : Run is_blank line blanks rest) (second : Run is_word_byte rest word left) where
+  skipped : words_of line ≡ words_of rest
+  skipped = ap words_of (sym first.whole) ∙ blanks-skipped blanks rest first.all
 
-  word-found : start < end → words_of (drop at line) ≡ between line start end ∷ words_of (drop end line)
-  word-found h = skipped ∙ ap words_of (run-split line start end word.later) ∙ go (between line start end) long word.all
+  pub first_word : 0 < length word → FirstWord line word left
+  first_word h =
+      record {
+        some = h;
+        words = skipped ∙ ap words_of (sym second.whole) ∙ go word h second.all;
+        shorter = omega (arith, ap length first.whole, ap length second.whole, length-append blanks rest, length-append word left);
+      }
     where
-      long : 0 < length (between line start end)
-      long = omega (arith, length-take-le (end - start) (drop start line) (omega (arith, length-drop start line, word.within)))
-
-      go : (w : List ℕ) → 0 < length w → all_are is_word_byte w ≡ true → words_of (w ++ drop end line) ≡ w ∷ words_of (drop end line)
+      go : (w : List ℕ) → 0 < length w → all_are is_word_byte w ≡ true → words_of (w ++ left) ≡ w ∷ words_of left
       go [] l a = absurd (omega arith)
-      go (x ∷ xs) l a = word_cut x xs (drop end line) a (stops line start end word)
+      go (x ∷ xs) l a = word_cut x xs left a (stops left second.ends)
 
-  word_none : start ≡ end → words_of (drop at line) ≡ []
-  unfolding words_of
-  word_none e = skipped ∙ by_cases (dec_lt start (length line)) here (λ h. ap words_of (past h))
-    where
-      here : start < length line → words_of (drop start line) ≡ []
-      here h =
-          let same : get_or line end 0 ≡ get_or line start 0 = ap (λ (k : ℕ). get_or line k 0) (sym e) in
-          let no_word : is_word_byte (get_or line start 0) ≡ false = rw same at (word.ends (omega arith)) in
-          rw (drop-cons line start 0 h, hash-byte (get_or line start 0) no_word (blanks.ends h)) refl
-
-      past : (start < length line → ⊥) → drop start line ≡ []
-      past h = let e : start ≡ length line = omega (arith, blanks.within) in rw e (drop-length line)
-
-  pub first_word : FirstWord line at (record { start = start; end = end })
-  first_word =
-      record { later = blanks.later; rising = word.later; within = word.within; found = word-found; none = word_none }
+  pub no_word : length word ≡ 0 → words_of line ≡ []
+  no_word h =
+      let same : left ≡ rest = ap (λ (w : List ℕ). w ++ left) (sym (nothing word h)) ∙ second.whole in
+      skipped ∙ ended rest first.ends (rw same at second.ends)
 
 -- a line, and those behind it
 
@@ -173,29 +141,18 @@ line-last x (y ∷ ys) h =
     let both = (and-eq-true_iff (is_line_byte x) (all_are is_line_byte (y ∷ ys))).0 h in
     rw (both.0, line-last y ys both.1)
 
-drop_past : (l : List ℕ) (n : ℕ) → length l ≤ n → drop n l ≡ []
-drop_past [] n h = drop-nil n
-drop_past (x ∷ xs) zero h = absurd (omega arith)
-drop_past (x ∷ xs) (suc n) h = drop_past xs n (omega arith)
-
--- the line from a place on that is inside the text, and those behind its line feed
-pub first-line : (text : List ℕ) (at end : ℕ) → at < length text → Spans is_line_byte text at end
-    → lines_of (drop at text) ≡ between text at end ∷ lines_of (drop (end + 1) text)
+-- the first line of a text that has a byte, and those behind its line feed
+pub first-line : {text line left : List ℕ} → 0 < length text → Run is_line_byte text line left → lines_of text ≡ line ∷ lines_of (drop 1 left)
 unfolding lines_of
-first-line text at end h s = ap lines_of (run-split text at end s.later) ∙ by_cases (dec_lt end (length text)) ended unended
+first-line {text} {line} {left} h s = ap lines_of (sym s.whole) ∙ go left s.whole s.ends
   where
-    ended : end < length text → lines_of (between text at end ++ drop end text) ≡ between text at end ∷ lines_of (drop (end + 1) text)
-    ended l =
-        let feed : get_or text end 0 ≡ line_feed = eqb-true _ _ (line-byte (get_or text end 0) (s.ends l)) in
-        rw (drop-cons text end 0 l, feed, add-one) (line-cut (between text at end) (drop (suc end) text) s.all)
+    last : (l : List ℕ) → 0 < length l → all_are is_line_byte l ≡ true → lines_of l ≡ l ∷ []
+    last [] h a = absurd (omega arith)
+    last (x ∷ xs) h a = line-last x xs a
 
-    go : (l : List ℕ) → 0 < length l → all_are is_line_byte l ≡ true → lines_of l ≡ l ∷ []
-    go [] l a = absurd (omega arith)
-    go (x ∷ xs) l a = line-last x xs a
-
-    long : (end < length text → ⊥) → 0 < length (between text at end)
-    long l = omega (arith, length-take-le (end - at) (drop at text) (omega (arith, length-drop at text, s.within)), s.within)
-
-    unended : (end < length text → ⊥) → lines_of (between text at end ++ drop end text) ≡ between text at end ∷ lines_of (drop (end + 1) text)
-    unended l =
-        rw (drop_past text end (omega arith), drop_past text (end + 1) (omega arith), append-nil) (go (between text at end) (long l) s.all)
+    go : (left : List ℕ) → line ++ left ≡ text → (0 < length left → is_line_byte (get_or left 0 0) ≡ false)
+        → lines_of (line ++ left) ≡ line ∷ lines_of (drop 1 left)
+    go [] e ends = rw append-nil (last line (omega (arith, ap length e, length-append line [])) s.all)
+    go (b ∷ bs) e ends =
+        let feed : b ≡ line_feed = eqb-true _ _ (line-byte b (ends (omega arith))) in
+        rw feed (line-cut line bs s.all)

@@ -1,6 +1,6 @@
 -- The two ways: a text becomes the file of the task that it says, and the text of a file's task says that task.
 -- Assumes nothing.
-use Rattle.std.specs.Prelude.{None, Option, Some}
+use Rattle.std.specs.Prelude.{None, Ok, Option, Some}
 use Prim.Native.Nat.{ℕ}
 use mathlib.Core.Path.{◌≡◌, refl, sym, ◌∙◌}
 use mathlib.Core.List.{List}
@@ -14,7 +14,7 @@ use Rattle.taskfile.proofs.Files.{task-then-file, accepted-within}
 use Rattle.taskfile.proofs.Tasks.{file-then-task}
 use Rattle.showing.specs.Calls.{shown_text, show_verdict, show_answer, show_output}
 use Rattle.assembling.specs.Drafts.{draft_in, task_from, wrong_in, task_in}
-use Rattle.assembling.specs.Calls.{assemble_verdict, assemble_answer, assemble_output}
+use Rattle.assembling.specs.Calls.{assemble_verdict, assemble_output}
 use Rattle.assembling.specs.Statements.{TextSaysTask, ShownAssembles, AssembledAccepted}
 use Rattle.assembling.proofs.Limits.{text-drafted, within-drafted}
 use Rattle.assembling.proofs.Closing.{assemble-accepted, text-accepted}
@@ -25,10 +25,8 @@ unfolding task_from
 text-says-task t w = (text-right t w, rw (text-known t w) refl)
 
 -- the file that stands in front of the output
-front : (text out : List ℕ) → assemble_verdict text out ≡ accept → take (assemble_answer text out).length (assemble_output text out) ≡ file_of (task_in text)
-front text out e =
-    let a = assemble-accepted text out e in
-    rw (a.0, a.1) (take_at (file_of (task_in text)) _ (length (file_of (task_in text))) refl)
+front : (text out : List ℕ) → assemble_verdict text out ≡ accept → take (length (file_of (task_in text))) (assemble_output text out) ≡ file_of (task_in text)
+front text out e = rw ((assemble-accepted text out e).1) (take_at (file_of (task_in text)) _ (length (file_of (task_in text))) refl)
 
 no-wrong-line : (text out : List ℕ) → assemble_verdict text out ≡ accept → wrong_in text ≡ None
 unfolding assemble_verdict
@@ -39,13 +37,17 @@ no-wrong-line text out e = go (wrong_in text) (both-accepted (output_row 49664 (
     go (Some i) e = absurd (never_both (sym e))
 
 pub assembled-accepted : AssembledAccepted
-assembled-accepted text out e =
-    rw (front text out e) (file-then-task (task_in text) (within-drafted (draft_in text) (text-drafted text (no-wrong-line text out e))))
+assembled-accepted text out e = (
+  length (file_of (task_in text)),
+  (assemble-accepted text out e).0,
+  rw (front text out e) (file-then-task (task_in text) (within-drafted (draft_in text) (text-drafted text (no-wrong-line text out e)))),
+)
 
 -- the text that stands in front of the room
-shown : (file room : List ℕ) → show_verdict file room ≡ accept → take (show_answer file room).length (show_output file room) ≡ shown_text file
+shown : (file room : List ℕ) → show_verdict file room ≡ accept
+    → (show_answer file room ≡ Ok (length (shown_text file))) × (take (length (shown_text file)) (show_output file room) ≡ shown_text file)
 unfolding show_answer show_output
-shown file room e = rw e (take_at (shown_text file) _ (length (shown_text file)) refl)
+shown file room e = (rw e refl, rw e (take_at (shown_text file) _ (length (shown_text file)) refl))
 
 pub shown-assembles : ShownAssembles
 unfolding show_verdict
@@ -53,4 +55,15 @@ shown-assembles file room out e long =
     let accepts : IsAccepted file = (both-accepted (verdict file) _ e).0 in
     let says = text-says-task (task_of file) (accepted-within file accepts) in
     let right = text-accepted (shown_text file) out (output-accepts 49664 (length out) long) says.0 in
-    rw (shown file room e) (right, front (shown_text file) out right ∙ rw says.1 (task-then-file file accepts))
+    let text = shown file room e in (
+      length (shown_text file),
+      text.0,
+      rw text.1 (
+        right,
+        (
+          length (file_of (task_in (shown_text file))),
+          (assemble-accepted (shown_text file) out right).0,
+          front (shown_text file) out right ∙ rw says.1 (task-then-file file accepts),
+        ),
+      ),
+    )

@@ -1,10 +1,10 @@
 -- What the calls answer, and what they leave in the lent output. Assumes nothing.
-use Rattle.std.specs.Prelude.{ℕ, List, ◌++◌, length, drop}
-use Rattle.model.specs.Answers.{accept, Verdict, on_accepted, refused_at, and_then, output_row}
+use Rattle.std.specs.Prelude.{ℕ, List, ◌++◌, length, drop, Result}
+use Rattle.model.specs.Answers.{accept, Verdict, on_accepted, answered, refused_at, and_then, output_row}
+use Rattle.model.specs.declared.Refusal.{Refusal}
 use Rattle.model.specs.declared.Refusal.TheVariants.{WrongText}
 use Rattle.taskfile.specs.File.{file_of}
 use Rattle.assembling.specs.Drafts.{wrong_in, task_in}
-use Rattle.assembling.specs.declared.Made.{Made}
 
 -- from text to file
 
@@ -16,10 +16,9 @@ output_size = 49664
 unfoldable pub assemble_verdict : List ℕ → List ℕ → Verdict
 assemble_verdict text out = and_then (output_row output_size (length out)) (refused_at (wrong_in text) WrongText accept)
 
--- the answer: the length of the file of the text's task, and 0 on a refusal
-unfoldable pub assemble_answer : List ℕ → List ℕ → Made
-assemble_answer text out =
-    record { verdict = assemble_verdict text out; length = on_accepted (assemble_verdict text out) (length (file_of (task_in text))) 0 }
+-- the answer: the length of the file of the text's task, or the refusal
+unfoldable pub assemble_answer : List ℕ → List ℕ → Result ℕ Refusal
+assemble_answer text out = answered (assemble_verdict text out) (length (file_of (task_in text)))
 
 -- the output: it begins with the file, and the bytes past it are as they were; on a refusal all are
 unfoldable pub assemble_output : List ℕ → List ℕ → List ℕ

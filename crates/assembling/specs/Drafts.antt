@@ -1,5 +1,5 @@
 -- What a text says, line by line: the numbers of the header so far, and the blocks. Assumes nothing.
-use Rattle.std.specs.Prelude.{ℕ, suc, ◌+◌, Bool, true, false, cond, ◌&&◌, List, [], ◌∷◌, ◌++◌, map, eqb, leb, ltb, length, get_or, drop, None, Option, Some}
+use Rattle.std.specs.Prelude.{ℕ, suc, ◌+◌, Bool, true, false, cond, ◌&&◌, List, [], ◌∷◌, ◌++◌, map, eqb, leb, ltb, length, get_or, drop, Option, None, Some}
 use Rattle.model.specs.Task.{Block, Preempter, Task}
 use Rattle.model.specs.Lists.{same_list}
 use Rattle.model.specs.declared.Header.{Header}
@@ -7,7 +7,7 @@ use Rattle.decimals.specs.Decimals.{all_digits, value}
 use Rattle.showing.specs.Text.{task_word, lines_word, limit_word, sampler_word, reload_word, switch_word, scratch_word, block_word, armed_word, preempter_word}
 use Rattle.assembling.specs.Words.{words_of, lines_of}
 use Rattle.assembling.specs.declared.Kind.{Kind}
-use Rattle.assembling.specs.declared.Kind.TheVariants.{Basic, Armed, Preempting, Unknown}
+use Rattle.assembling.specs.declared.Kind.TheVariants.{Basic, Armed, Preempting}
 
 -- the header's numbers in the order of the text, id, S, Q, Q2, R, G and the scratch range's two, and the blocks
 pub record Draft : Type 0 where
@@ -42,21 +42,22 @@ header_right k ns =
 abbrev pub takes_header : ℕ → List ℕ → List ℕ → Bool
 takes_header k word ns = same_list word (header_word k) && header_right k ns
 
--- what a line of this word says behind the header's
-unfoldable pub kind_of : List ℕ → Kind
+-- what a line of this word says behind the header's, if anything
+unfoldable pub kind_of : List ℕ → Option Kind
 kind_of word =
-    cond (same_list word block_word) Basic (cond (same_list word armed_word) Armed (cond (same_list word preempter_word) Preempting Unknown))
+    cond (same_list word block_word) (Some Basic)
+    (cond (same_list word armed_word) (Some Armed) (cond (same_list word preempter_word) (Some Preempting) None))
 
 -- a file has room for one more of a kind: basic blocks come before all preempters, and preempters behind a basic block
 unfoldable pub room_for : Kind → ℕ → ℕ → Bool
 room_for Basic blocks preempters = eqb preempters 0 && ltb blocks 64
 room_for Armed blocks preempters = eqb preempters 0 && ltb blocks 64
 room_for Preempting blocks preempters = ltb 0 blocks && ltb preempters 32
-room_for Unknown blocks preempters = false
 
--- a block's line has its time or its id, and at most 124 reads
-abbrev pub takes_entry : ℕ → ℕ → Kind → List ℕ → Bool
-takes_entry blocks preempters kind ns = leb 1 (length ns) && (leb (length ns) 125 && room_for kind blocks preempters)
+-- a block's line has its time or its id, and at most 124 reads; a line that says nothing is not taken
+abbrev pub takes_entry : ℕ → ℕ → Option Kind → List ℕ → Bool
+takes_entry blocks preempters None ns = false
+takes_entry blocks preempters (Some kind) ns = leb 1 (length ns) && (leb (length ns) 125 && room_for kind blocks preempters)
 
 -- a text can go on with a line of these words; an empty line is passed over
 unfoldable pub takes : Draft → List (List ℕ) → Bool
@@ -77,7 +78,10 @@ unfoldable pub with_entry : Draft → Kind → List ℕ → Draft
 with_entry d Basic ns = record { numbers = d.numbers; blocks = d.blocks ++ (block_from false ns ∷ []); preempters = d.preempters }
 with_entry d Armed ns = record { numbers = d.numbers; blocks = d.blocks ++ (block_from true ns ∷ []); preempters = d.preempters }
 with_entry d Preempting ns = record { numbers = d.numbers; blocks = d.blocks; preempters = d.preempters ++ (preempter_from ns ∷ []) }
-with_entry d Unknown ns = d
+
+abbrev pub with_kind : Draft → Option Kind → List ℕ → Draft
+with_kind d None ns = d
+with_kind d (Some kind) ns = with_entry d kind ns
 
 abbrev pub with_numbers : Draft → List ℕ → Draft
 with_numbers d ns = record { numbers = d.numbers ++ ns; blocks = d.blocks; preempters = d.preempters }
@@ -85,7 +89,7 @@ with_numbers d ns = record { numbers = d.numbers ++ ns; blocks = d.blocks; preem
 unfoldable pub with_words : Draft → List (List ℕ) → Draft
 with_words d [] = d
 with_words d (w ∷ ws) =
-    cond (ltb (length d.numbers) 8) (with_numbers d (map value ws)) (with_entry d (kind_of w) (map value ws))
+    cond (ltb (length d.numbers) 8) (with_numbers d (map value ws)) (with_kind d (kind_of w) (map value ws))
 
 -- all of the header is known, and a basic block
 abbrev pub whole : Draft → Bool

@@ -1,5 +1,5 @@
 -- What is shown of the two ways beside the contracts. Assumes nothing.
-use Rattle.std.specs.Prelude.{ℕ, ◌≡◌, List, length, take, None}
+use Rattle.std.specs.Prelude.{ℕ, ◌≡◌, List, length, take, None, Ok}
 use Rattle.model.specs.Answers.{accept}
 use Rattle.model.specs.Task.{Task}
 use Rattle.taskfile.specs.File.{IsAccepted, task_of, Within}
@@ -16,12 +16,14 @@ TextSaysTask = (t : Task) → Within t → (wrong_in (text_of t) ≡ None) × (t
 abbrev pub ShownAssembles : Type 0
 ShownAssembles =
     (file room out : List ℕ) → show_verdict file room ≡ accept → length out ≡ output_size
-    → let text = take (show_answer file room).length (show_output file room) in
-    (assemble_verdict text out ≡ accept) × (take (assemble_answer text out).length (assemble_output text out) ≡ file)
+    → (n : ℕ) × (show_answer file room ≡ Ok n) ×
+    (let text = take n (show_output file room) in
+    (assemble_verdict text out ≡ accept) × ((m : ℕ) × (assemble_answer text out ≡ Ok m) × (take m (assemble_output text out) ≡ file)))
 
 -- every file that is made of a text is accepted, and its task is the one that the text says
 abbrev pub AssembledAccepted : Type 0
 AssembledAccepted =
     (text out : List ℕ) → assemble_verdict text out ≡ accept
-    → let file = take (assemble_answer text out).length (assemble_output text out) in
-    IsAccepted file × (task_of file ≡ task_in text)
+    → (n : ℕ) × (assemble_answer text out ≡ Ok n) ×
+    (let file = take n (assemble_output text out) in
+    IsAccepted file × (task_of file ≡ task_in text))

@@ -1,51 +1,41 @@
--- What the steps of the reader leave to each other: places in a line, numbers in an array, and what is known behind a line. Assumes nothing.
-use Rattle.std.specs.Prelude.{ℕ, ◌-◌, ◌≤◌, ◌<◌, ◌≡◌, Bool, true, false, cond, ◌&&◌, List, [], ◌∷◌, ◌++◌, map, leb, ltb, length, get_or, take, drop, None, Option, Some}
+-- What the steps of the reader leave to each other: parts of a line, numbers in an array, and what is known behind a line. Assumes nothing.
+use Rattle.std.specs.Prelude.{ℕ, ◌≤◌, ◌<◌, ◌≡◌, Bool, true, false, cond, ◌&&◌, List, [], ◌∷◌, ◌++◌, map, leb, ltb, length, get_or, take, Option, None, Some, is_some, Result, Ok, Err}
 use Rattle.taskfile.specs.File.{basic_bytes, preempter_bytes}
 use Rattle.writer.specs.Writing.{Appended}
 use Rattle.decimals.specs.Decimals.{value}
+use Rattle.model.specs.Answers.{accept, Verdict}
+use Rattle.model.specs.declared.Refusal.{Refusal}
 use Rattle.assembling.specs.Words.{words_of}
 use Rattle.assembling.specs.Drafts.{Draft, is_number, all_numbers, takes, with_words, block_from, preempter_from}
 use Rattle.assembling.specs.declared.Kind.{Kind}
-use Rattle.assembling.specs.declared.Kind.TheVariants.{Basic, Armed, Preempting, Unknown}
+use Rattle.assembling.specs.declared.Kind.TheVariants.{Basic, Armed, Preempting}
 use Rattle.assembling.specs.declared.Known.{Known}
-use Rattle.assembling.specs.declared.Numbers.{Numbers}
-use Rattle.assembling.specs.declared.Taken.{Taken}
-use Rattle.assembling.specs.declared.Word.{Word}
 
 -- f holds of each byte
 unfoldable pub all_are : (ℕ → Bool) → List ℕ → Bool
 all_are f [] = true
 all_are f (b ∷ bs) = f b && all_are f bs
 
--- the bytes between two places
-abbrev pub between : List ℕ → ℕ → ℕ → List ℕ
-between text from to = take (to - from) (drop from text)
+-- `run` has the bytes up to the first that is not right, by the answers R of a test, and `rest` has that byte and what is behind it
+pub record Splits (R : ℕ → Bool → Type 0) (bytes run rest : List ℕ) : Type 0 where
+  pub whole : run ++ rest ≡ bytes
+  pub all : (k : ℕ) → k < length run → R (get_or run k 0) true
+  pub ends : 0 < length rest → R (get_or rest 0 0) false
 
--- f holds of the bytes from one place on, up to another, and there no longer
-pub record Spans (f : ℕ → Bool) (text : List ℕ) (from to : ℕ) : Type 0 where
-  pub later : from ≤ to
-  pub within : to ≤ length text
-  pub all : all_are f (between text from to) ≡ true
-  pub ends : to < length text → f (get_or text to 0) ≡ false
-
--- the first word from a place on, or none where it has no byte
-pub record FirstWord (line : List ℕ) (at : ℕ) (w : Word) : Type 0 where
-  pub later : at ≤ w.start
-  pub rising : w.start ≤ w.end
-  pub within : w.end ≤ length line
-  pub found : w.start < w.end → words_of (drop at line) ≡ between line w.start w.end ∷ words_of (drop w.end line)
-  pub none : w.start ≡ w.end → words_of (drop at line) ≡ []
+-- the first word of a line, and what is behind it
+pub record FirstWord (line word left : List ℕ) : Type 0 where
+  pub some : 0 < length word
+  pub words : words_of line ≡ word ∷ words_of left
+  pub shorter : length left < length line
 
 -- the number that a word says, if it has a byte
 unfoldable pub number_in : List ℕ → Option ℕ
 number_in w = cond (ltb 0 (length w) && is_number w) (Some (value w)) None
 
 -- at most 125 words that are all numbers, in an array
-pub record NumbersRead (words : List (List ℕ)) (numbers : List ℕ) (r : Numbers) : Type 0 where
-  pub right : r.right ≡ (all_numbers words && leb (length words) 125)
-  pub count : r.right ≡ true → r.count ≡ length words
-  pub held : r.right ≡ true → take r.count numbers ≡ map value words
-  pub few : r.count ≤ 125
+pub record NumbersRead (words : List (List ℕ)) (numbers : List ℕ) (r : Option ℕ) : Type 0 where
+  pub right : is_some r ≡ (all_numbers words && leb (length words) 125)
+  pub held : (count : ℕ) → r ≡ Some count → (count ≤ 125) × (take count numbers ≡ map value words)
   pub long : length numbers ≡ 125
 
 -- what the code knows of a draft: its numbers in an array, and how many blocks there are
@@ -61,7 +51,6 @@ unfoldable pub entry_named : Kind → List ℕ → List ℕ
 entry_named Basic ns = basic_bytes (block_from false ns)
 entry_named Armed ns = basic_bytes (block_from true ns)
 entry_named Preempting ns = preempter_bytes (preempter_from ns)
-entry_named Unknown ns = basic_bytes (block_from false ns)
 
 abbrev pub names_of : Draft → List (List ℕ)
 names_of d = map basic_bytes d.blocks ++ map preempter_bytes d.preempters
@@ -70,8 +59,12 @@ names_of d = map basic_bytes d.blocks ++ map preempter_bytes d.preempters
 abbrev pub Stored : Draft → List ℕ → Type 0
 Stored d file = Appended 0 (names_of d) [] file
 
--- what the code makes of a line: whether the text can go on with it, and then what is known
-pub record TakesLine (d : Draft) (words : List (List ℕ)) (r : Taken) (file : List ℕ) : Type 0 where
-  pub right : r.right ≡ takes d words
-  pub known : r.right ≡ true → Knows (with_words d words) r.known
-  pub stored : r.right ≡ true → Stored (with_words d words) file
+-- what the code makes of a line: what is then known, if the text can go on with it
+pub record TakesLine (d : Draft) (words : List (List ℕ)) (r : Option Known) (file : List ℕ) : Type 0 where
+  pub right : is_some r ≡ takes d words
+  pub known : (k : Known) → r ≡ Some k → Knows (with_words d words) k × Stored (with_words d words) file
+
+-- a reader's refusal, if it refuses
+abbrev pub refusal_of : Result Known Refusal → Verdict
+refusal_of (Ok k) = accept
+refusal_of (Err x) = Err x

@@ -1,34 +1,27 @@
 // The text of a task, that people write and read: a task file made of one, and one made of a task file.
 #![tactic(auto)]
 
-ghost use Rattle.std.specs.Prelude.{◌≡◌, true, List, ◌++◌, ℕ, ◌≤◌, ◌<◌, length, get_or, take, drop};
+ghost use Rattle.std.specs.Prelude.{◌≡◌, true, List, [], ◌++◌, ℕ, ◌≤◌, ◌<◌, length, get_or, take, drop, is_some, IfSome, IfOk, MatchOption};
 ghost use Rattle.assembling.specs.Words.{is_blank, is_word_byte, is_line_byte, words_of};
 ghost use Rattle.assembling.specs.Drafts.{header_word, header_right, kind_of, room_for, takes_header, takes_entry};
-ghost use Rattle.assembling.specs.Drafts.{Draft, with_numbers, with_entry, whole, wrong_in, draft_in, header_from, task_from};
-ghost use Rattle.assembling.specs.Steps.{Spans, FirstWord, number_in, NumbersRead, Knows, entry_named, Stored, TakesLine};
+ghost use Rattle.assembling.specs.Drafts.{Draft, with_numbers, with_entry, with_kind, whole, wrong_in, draft_in, header_from, task_from};
+ghost use Rattle.assembling.specs.Steps.{Splits, FirstWord, number_in, NumbersRead, Knows, entry_named, Stored, TakesLine, refusal_of};
+ghost use Rattle.model.specs.Answers.{accept, refused_at};
+ghost use Rattle.model.specs.declared.Refusal.TheVariants.{WrongText};
 ghost use Rattle.assembling.specs.Limits.{Drafted};
 ghost use Rattle.taskfile.specs.File.{file_of};
 ghost use Rattle.assembling.specs.Calls.{assemble_answer, assemble_output};
 ghost use Rattle.block.specs.Blocks.{numbered};
 ghost use Rattle.writer.specs.Writing.{stored_reads};
-ghost use Rattle.model.specs.Lists.{same_list};
 
 use model::{Header, Refusal, Scratch};
 
-// A word of a line: its bytes from start up to end, none where there is no word.
-#[derive(Clone, Copy)]
-struct Word {
-    start: usize,
-    end: usize,
-}
-
-// What a line behind the header's says, by its word.
+// What a line behind the header's says.
 #[derive(Clone, Copy)]
 enum Kind {
     Basic,
     Armed,
     Preempting,
-    Unknown,
 }
 
 // What is known of a text: so many of the header's numbers, in the order of the text, and so many blocks.
@@ -52,192 +45,110 @@ fn is_word_byte(byte: u8) -> bool
     !is_blank(byte) & (byte != b'#')
 }
 
-// Where the line that begins at a place ends: at its line feed, or at the end of the text.
-fn line_end(text: &[u8], from: usize) -> usize
-    requires { from ≤ length text.now }
-    ensures { Spans is_line_byte text.now from result }
+fn is_line_byte(byte: u8) -> bool
+    ensures { result ≡ is_line_byte byte }
 {
-    let mut i = from;
-    while i < text.len() {
-        if text[i] == b'\n' {
-            return i;
-        }
-        i += 1;
-    }
-    i
+    byte != b'\n'
 }
 
-// Where the blanks from a place on end.
-fn blanks_end(line: &[u8], from: usize) -> usize
-    requires { from ≤ length line.now }
-    ensures { Spans is_blank line.now from result }
+// The bytes up to the first that is not of a kind, and the rest.
+fn split_run<'a, F: Fn(u8) -> bool>(bytes: &'a [u8], is_in: F) -> (&'a [u8], &'a [u8])
+    requires { F.IsAlwaysCallable is_in }
+    ensures { Splits (F.post is_in) bytes.now result.0.now result.1.now }
 {
-    let mut i = from;
-    while i < line.len() {
-        if !is_blank(line[i]) {
-            return i;
+    for (i, byte) in bytes.iter().enumerate() {
+        if !is_in(*byte) {
+            return bytes.split_at(i);
         }
-        i += 1;
     }
-    i
+    bytes.split_at(bytes.len())
 }
 
-// Where the word that begins at a place ends; there, if none does.
-fn word_end(line: &[u8], from: usize) -> usize
-    requires { from ≤ length line.now }
-    ensures { Spans is_word_byte line.now from result }
+// The first word of a line, and what follows it.
+fn next_word(line: &[u8]) -> Option<(&[u8], &[u8])>
+    ensures { MatchOption result (words_of line.now ≡ []) (λ w. FirstWord line.now w.0.now w.1.now) }
 {
-    let mut i = from;
-    while i < line.len() {
-        if !is_word_byte(line[i]) {
-            return i;
-        }
-        i += 1;
+    let (_, rest) = split_run(line, is_blank);
+    let (word, left) = split_run(rest, is_word_byte);
+    if word.is_empty() {
+        None
+    } else {
+        Some((word, left))
     }
-    i
-}
-
-// The first word from a place on.
-fn next_word(line: &[u8], at: usize) -> Word
-    requires { at ≤ length line.now }
-    ensures { FirstWord line.now at result }
-{
-    let start = blanks_end(line, at);
-    let end = word_end(line, start);
-    Word { start, end }
 }
 
 // The number that a word says, if it is one: digits alone, at most 4294967295.
 #[tactic(auto, using(crate::proofs::Reading::number_is))]
-fn number_of(word: &[u8]) -> Option<u64>
+fn number_of(word: &[u8]) -> Option<u32>
     ensures { result ≡ number_in word.now }
 {
-    let Some(n) = decimals::decimal_of(word) else {
-        return None;
-    };
+    let n = decimals::decimal_of(word)?;
     if 4294967295 < n {
         return None;
     }
-    Some(n)
+    Some(n as u32)
 }
 
-// The numbers of a line from a place on, in an array: how many there are, if all words are numbers and no more than there is room for.
-#[derive(Clone, Copy)]
-struct Numbers {
-    right: bool,
-    count: usize,
-}
-
-#[tactic(auto, using(crate::proofs::Reading::full_line))]
-fn read_numbers(line: &[u8], at: usize, numbers: &mut [u32; 125]) -> Numbers
-    requires { (at ≤ length line.now) × (length numbers.old ≡ 125) }
-    ensures { NumbersRead (words_of (drop at line.now)) numbers.new result }
+// Reads the words of a line into an array, and answers how many there are, if all are numbers and
+// no more than there is room for.
+fn read_numbers(line: &[u8], numbers: &mut [u32; 125]) -> Option<usize>
+    requires { length numbers.old ≡ 125 }
+    ensures { NumbersRead (words_of line.now) numbers.new result }
 {
+    let mut rest = line;
     let mut count = 0;
-    let mut from = at;
-    loop {
-        let word = next_word(line, from);
-        let start = word.start;
-        let end = word.end;
-        if start == end {
-            return Numbers { right: true, count };
-        }
-        let Some(n) = number_of(&line[start..end]) else {
-            return Numbers {
-                right: false,
-                count,
-            };
-        };
+    while let Some((word, left)) = next_word(rest) {
+        let n = number_of(word)?;
         if count == 125 {
-            return Numbers {
-                right: false,
-                count,
-            };
+            return None;
         }
-        numbers[count] = n as u32;
+        numbers[count] = n;
         count += 1;
-        from = end;
+        rest = left;
     }
+    Some(count)
 }
 
-// Whether a word is this one.
-fn same(word: &[u8], name: &[u8]) -> bool
-    ensures { result ≡ same_list word.now name.now }
+// The word of the header line that comes where so many numbers are known; none where all are.
+fn header_word(given: usize) -> &'static [u8]
+    ensures { result.now ≡ header_word given }
 {
-    if word.len() != name.len() {
-        return false;
+    match given {
+        0 => b"task",
+        1 => b"lines",
+        2 => b"limit",
+        3 => b"sampler",
+        4 => b"reload",
+        5 => b"switch",
+        6 => b"scratch",
+        _ => b"",
     }
-    let mut i = 0;
-    while i < word.len() {
-        if word[i] != name[i] {
-            return false;
-        }
-        i += 1;
-    }
-    true
-}
-
-// Whether a word is that of the header line that comes where so many numbers are known.
-fn is_header_word(given: usize, word: &[u8]) -> bool
-    ensures { result ≡ same_list word.now (header_word given) }
-{
-    if given == 0 {
-        return same(word, b"task");
-    }
-    if given == 1 {
-        return same(word, b"lines");
-    }
-    if given == 2 {
-        return same(word, b"limit");
-    }
-    if given == 3 {
-        return same(word, b"sampler");
-    }
-    if given == 4 {
-        return same(word, b"reload");
-    }
-    if given == 5 {
-        return same(word, b"switch");
-    }
-    if given == 6 {
-        return same(word, b"scratch");
-    }
-    word.len() == 0
 }
 
 // Whether these are the numbers of that line.
 fn header_right(given: usize, numbers: &[u32]) -> bool
     ensures { result ≡ header_right given numbers.now }
 {
-    if given == 6 {
-        if numbers.len() != 2 {
-            return false;
-        }
-        return numbers[0] as u64 + numbers[1] as u64 <= 4294967296;
+    match given {
+        6 => numbers.len() == 2 && numbers[0] as u64 + numbers[1] as u64 <= 4294967296,
+        1 => numbers.len() == 1 && (1..=512).contains(&numbers[0]),
+        _ => numbers.len() == 1,
     }
-    if numbers.len() != 1 {
-        return false;
-    }
-    if given == 1 {
-        return (1 <= numbers[0]) & (numbers[0] <= 512);
-    }
-    true
 }
 
 // What a line behind the header's says.
-fn kind_of(word: &[u8]) -> Kind
+fn kind_of(word: &[u8]) -> Option<Kind>
     ensures { result ≡ kind_of word.now }
 {
-    if same(word, b"block") {
-        return Kind::Basic;
+    if word == b"block".as_slice() {
+        Some(Kind::Basic)
+    } else if word == b"armed".as_slice() {
+        Some(Kind::Armed)
+    } else if word == b"preempter".as_slice() {
+        Some(Kind::Preempting)
+    } else {
+        None
     }
-    if same(word, b"armed") {
-        return Kind::Armed;
-    }
-    if same(word, b"preempter") {
-        return Kind::Preempting;
-    }
-    Kind::Unknown
 }
 
 // Whether a file has room for one more of a kind.
@@ -245,32 +156,22 @@ fn room_for(kind: Kind, blocks: usize, preempters: usize) -> bool
     ensures { result ≡ room_for kind blocks preempters }
 {
     match kind {
-        Kind::Basic => (preempters == 0) & (blocks < 64),
-        Kind::Armed => (preempters == 0) & (blocks < 64),
-        Kind::Preempting => (0 < blocks) & (preempters < 32),
-        Kind::Unknown => false,
+        Kind::Basic | Kind::Armed => preempters == 0 && blocks < 64,
+        Kind::Preempting => 0 < blocks && preempters < 32,
     }
 }
 
 // With the numbers of the next header line.
-fn with_numbers(known: Known, numbers: &[u32]) -> Known
+fn with_numbers(mut known: Known, numbers: &[u32]) -> Known
     requires { (header_right known.given numbers.now ≡ true) × (known.given < 8) × (length known.header ≡ 8) }
     ensures { ((d : Draft) → Knows d known → Knows (with_numbers d numbers.now) result) × (result.blocks ≡ known.blocks) × (result.preempters ≡ known.preempters) }
 {
-    let given = known.given;
-    let mut header = known.header;
-    header[given] = numbers[0];
-    let mut next = given + 1;
-    if given == 6 {
-        header[7] = numbers[1];
-        next = 8;
+    known.header[known.given] = numbers[0];
+    if known.given == 6 {
+        known.header[7] = numbers[1];
     }
-    Known {
-        given: next,
-        header,
-        blocks: known.blocks,
-        preempters: known.preempters,
-    }
+    known.given += numbers.len();
+    known
 }
 
 // Stores the numbers that a block reads.
@@ -278,10 +179,8 @@ fn put_reads(block: &mut [u8], numbers: &[u32])
     requires { (length block.old ≡ 512) × (length numbers.now ≤ 124) }
     ensures { stored_reads block.new (length numbers.now) ≡ numbers.now }
 {
-    let mut j = 0;
-    while j < numbers.len() {
-        writer::put_read(block, j, numbers[j]);
-        j += 1;
+    for (j, number) in numbers.iter().enumerate() {
+        writer::put_read(block, j, *number);
     }
 }
 
@@ -297,40 +196,19 @@ fn put_block(block: &mut [u8], number: u32, kind: Kind, numbers: &[u32])
         Kind::Basic => writer::close_basic(block, number, first, false, count),
         Kind::Armed => writer::close_basic(block, number, first, true, count),
         Kind::Preempting => writer::close_preempter(block, number, first, count),
-        Kind::Unknown => writer::close_basic(block, number, first, false, count),
     }
 }
 
 // With one more of a kind.
-fn counted(known: Known, kind: Kind) -> Known
+fn counted(mut known: Known, kind: Kind) -> Known
     requires { (room_for kind known.blocks known.preempters ≡ true) × (known.blocks ≤ 64) × (known.preempters ≤ 32) }
     ensures { ((d : Draft) (ns : List ℕ) → Knows d known → Knows (with_entry d kind ns) result) × (result.blocks ≤ 64) × (result.preempters ≤ 32) }
 {
-    let given = known.given;
-    let header = known.header;
-    let blocks = known.blocks;
-    let preempters = known.preempters;
     match kind {
-        Kind::Basic => Known {
-            given,
-            header,
-            blocks: blocks + 1,
-            preempters,
-        },
-        Kind::Armed => Known {
-            given,
-            header,
-            blocks: blocks + 1,
-            preempters,
-        },
-        Kind::Preempting => Known {
-            given,
-            header,
-            blocks,
-            preempters: preempters + 1,
-        },
-        Kind::Unknown => known,
+        Kind::Basic | Kind::Armed => known.blocks += 1,
+        Kind::Preempting => known.preempters += 1,
     }
+    known
 }
 
 // With the block that a line says, stored in the file.
@@ -347,104 +225,51 @@ fn with_entry(file: &mut [u8], known: Known, kind: Kind, numbers: &[u32]) -> Kno
     counted(known, kind)
 }
 
-// What is known behind a line, if the text can go on with it.
-#[derive(Clone, Copy)]
-struct Taken {
-    right: bool,
-    known: Known,
-}
-
-// Behind a line of the header.
-fn take_header(known: Known, word: &[u8], numbers: &[u32]) -> Taken
+// What is known after a line of the header, if the text can go on with it.
+fn take_header(known: Known, word: &[u8], numbers: &[u32]) -> Option<Known>
     requires { (known.given < 8) × (length known.header ≡ 8) }
-    ensures right_value { result.right ≡ takes_header known.given word.now numbers.now }
-    ensures knows { result.right ≡ true → (d : Draft) → Knows d known → Knows (with_numbers d numbers.now) result.known }
-    ensures blocks_value { (result.known.blocks ≡ known.blocks) × (result.known.preempters ≡ known.preempters) }
+    ensures right_value { is_some result ≡ takes_header known.given word.now numbers.now }
+    ensures knows { IfSome result (λ k. ((d : Draft) → Knows d known → Knows (with_numbers d numbers.now) k) × (k.blocks ≡ known.blocks) × (k.preempters ≡ known.preempters)) }
 {
-    if !is_header_word(known.given, word) {
-        return Taken {
-            right: false,
-            known,
-        };
-    }
-    if !header_right(known.given, numbers) {
-        return Taken {
-            right: false,
-            known,
-        };
-    }
-    Taken {
-        right: true,
-        known: with_numbers(known, numbers),
+    if word == header_word(known.given) && header_right(known.given, numbers) {
+        Some(with_numbers(known, numbers))
+    } else {
+        None
     }
 }
 
-// Behind a line of a block, which is stored in the file.
-fn take_entry(file: &mut [u8], known: Known, word: &[u8], numbers: &[u32]) -> Taken
+// What is known after a line of a block, which is stored in the file, if the text can go on with it.
+fn take_entry(file: &mut [u8], known: Known, word: &[u8], numbers: &[u32]) -> Option<Known>
     requires { (length file.old ≡ 49664) × (known.blocks ≤ 64) × (known.preempters ≤ 32) }
-    ensures right_value { result.right ≡ takes_entry known.blocks known.preempters (kind_of word.now) numbers.now }
-    ensures knows { result.right ≡ true → (d : Draft) → Knows d known → Stored d file.old → Knows (with_entry d (kind_of word.now) numbers.now) result.known × Stored (with_entry d (kind_of word.now) numbers.now) file.new }
-    ensures blocks_bound { (result.known.blocks ≤ 64) × (result.known.preempters ≤ 32) }
+    ensures right_value { is_some result ≡ takes_entry known.blocks known.preempters (kind_of word.now) numbers.now }
+    ensures knows { IfSome result (λ k. (d : Draft) → Knows d known → Stored d file.old → Knows (with_kind d (kind_of word.now) numbers.now) k × Stored (with_kind d (kind_of word.now) numbers.now) file.new) }
+    ensures blocks_bound { IfSome result (λ k. (k.blocks ≤ 64) × (k.preempters ≤ 32)) }
 {
-    let kind = kind_of(word);
+    let kind = kind_of(word)?;
     let count = numbers.len();
-    if count < 1 {
-        return Taken {
-            right: false,
-            known,
-        };
-    }
-    if 125 < count {
-        return Taken {
-            right: false,
-            known,
-        };
-    }
-    if !room_for(kind, known.blocks, known.preempters) {
-        return Taken {
-            right: false,
-            known,
-        };
-    }
-    Taken {
-        right: true,
-        known: with_entry(file, known, kind, numbers),
+    if 1 <= count && count <= 125 && room_for(kind, known.blocks, known.preempters) {
+        Some(with_entry(file, known, kind, numbers))
+    } else {
+        None
     }
 }
 
-// Behind a line: its words, the first of which says what the others are.
-fn take_line(file: &mut [u8], known: Known, line: &[u8]) -> Taken
+// What is known after a line, if the text can go on with it: its first word says what the others are.
+fn take_line(file: &mut [u8], known: Known, line: &[u8]) -> Option<Known>
     requires { (length file.old ≡ 49664) × (length known.header ≡ 8) × (known.blocks ≤ 64) × (known.preempters ≤ 32) }
     ensures takes_line { (d : Draft) → Knows d known → Stored d file.old → TakesLine d (words_of line.now) result file.new }
-    ensures blocks_bound { (result.known.blocks ≤ 64) × (result.known.preempters ≤ 32) }
+    ensures blocks_bound { IfSome result (λ k. (k.blocks ≤ 64) × (k.preempters ≤ 32)) }
 {
-    let word = next_word(line, 0);
-    let start = word.start;
-    let end = word.end;
-    if start == end {
-        return Taken { right: true, known };
-    }
+    let Some((word, rest)) = next_word(line) else {
+        return Some(known);
+    };
     let mut numbers = [0u32; 125];
-    let read = read_numbers(line, end, &mut numbers);
-    if !read.right {
-        return Taken {
-            right: false,
-            known,
-        };
-    }
-    let count = read.count;
+    let count = read_numbers(rest, &mut numbers)?;
     if known.given < 8 {
-        take_header(known, &line[start..end], &numbers[..count])
+        take_header(known, word, &numbers[..count])
     } else {
-        take_entry(file, known, &line[start..end], &numbers[..count])
+        take_entry(file, known, word, &numbers[..count])
     }
-}
-
-// What a text says: its lowest wrong line, if any, and what is known behind its last.
-#[derive(Clone, Copy)]
-struct Outcome {
-    place: Option<usize>,
-    known: Known,
 }
 
 // Whether a text may end here.
@@ -454,12 +279,12 @@ fn is_whole(known: Known) -> bool
     (8 <= known.given) & (0 < known.blocks)
 }
 
-// Reads a text line by line; each block is stored in the file.
-fn read_lines(file: &mut [u8], text: &[u8]) -> Outcome
+// Reads a text line by line, and answers what is known after its last line, or 17 at its lowest wrong line; each block is stored in the file.
+fn read_lines(file: &mut [u8], text: &[u8]) -> Result<Known, Refusal>
     requires { length file.old ≡ 49664 }
-    ensures place_value { result.place ≡ wrong_in text.now }
-    ensures knows { result.place ≡ None → Knows (draft_in text.now) result.known × Stored (draft_in text.now) file.new }
-    ensures blocks_bound { (result.known.blocks ≤ 64) × (result.known.preempters ≤ 32) }
+    ensures refusal { refusal_of result ≡ refused_at (wrong_in text.now) WrongText accept }
+    ensures knows { IfOk result (λ k. Knows (draft_in text.now) k × Stored (draft_in text.now) file.new) }
+    ensures blocks_bound { IfOk result (λ k. (k.blocks ≤ 64) × (k.preempters ≤ 32)) }
 {
     let mut known = Known {
         given: 0,
@@ -468,30 +293,20 @@ fn read_lines(file: &mut [u8], text: &[u8]) -> Outcome
         preempters: 0,
     };
     let mut line = 0;
-    let mut at = 0;
-    while at < text.len() {
-        let end = line_end(text, at);
-        let taken = take_line(file, known, &text[at..end]);
-        known = taken.known;
-        if !taken.right {
-            return Outcome {
-                place: Some(line),
-                known,
-            };
-        }
+    let mut rest = text;
+    while !rest.is_empty() {
+        let (first, left) = split_run(rest, is_line_byte);
+        known = take_line(file, known, first).ok_or(Refusal::WrongText(line))?;
         line += 1;
-        at = end + 1;
+        rest = match left.split_first() {
+            Some((_, behind)) => behind,
+            None => left,
+        };
     }
     if is_whole(known) {
-        Outcome {
-            place: None,
-            known,
-        }
+        Ok(known)
     } else {
-        Outcome {
-            place: Some(line),
-            known,
-        }
+        Err(Refusal::WrongText(line))
     }
 }
 
@@ -529,40 +344,16 @@ fn close(file: &mut [u8], known: Known) -> usize
     size
 }
 
-// What a call answers: the length of what it leaves beside the verdict, 0 where it refuses.
-#[derive(Clone, Copy)]
-pub struct Made {
-    pub verdict: Result<(), Refusal>,
-    pub length: usize,
-}
-
-// The task file of a text, at the beginning of an output of 49,664 bytes, and its length. Bytes past it stay as they were, and on a refusal all do:
-// the file is made aside, and copied once the whole text is right.
-pub fn assemble(text: &[u8], out: &mut [u8]) -> Made
+// The length of the task file of a text, which is at the beginning of an output of 49,664 bytes, or the refusal: 9 for the output, and then 17 at the
+// lowest wrong line. Bytes past the file stay as they were, and on a refusal all do: the file is made aside, and copied once the whole text is right.
+pub fn assemble(text: &[u8], out: &mut [u8]) -> Result<usize, Refusal>
     ensures value { result ≡ assemble_answer text.now out.old }
     ensures out_after { out.new ≡ assemble_output text.now out.old }
 {
-    let checked = answers::check_output(49664, out.len());
-    let Ok(()) = checked else {
-        return refused(checked);
-    };
+    answers::check_output(49664, out.len())?;
     let mut file = [0u8; 49664];
-    let outcome = read_lines(&mut file, text);
-    let place = outcome.place;
-    match place {
-        Some(line) => refused(Err(Refusal::WrongText(line))),
-        None => Made {
-            verdict: Ok(()),
-            length: make(&mut file, outcome.known, out),
-        },
-    }
-}
-
-// What is answered with a refusal.
-fn refused(verdict: Result<(), Refusal>) -> Made
-    ensures { result ≡ record { verdict = verdict; length = 0 } }
-{
-    Made { verdict, length: 0 }
+    let known = read_lines(&mut file, text)?;
+    Ok(make(&mut file, known, out))
 }
 
 // Closes the file of a whole text and copies it to the output; answers its length.

@@ -13,10 +13,8 @@ fn main(rt: HostRuntime) -> io::Result<()> {
     let mut file = [0u8; 65536];
     let n = desk::read_input(&rt, &mut file)?;
     let mut text = [0u8; 135168];
-    let shown = showing::show(&file[..n], &mut text);
-    let verdict = shown.verdict;
-    match verdict {
-        Ok(()) => desk::print_page(&rt, &text, shown.length),
+    match showing::show(&file[..n], &mut text) {
+        Ok(length) => desk::print_page(&rt, &text, length),
         Err(refusal) => desk::print_refusal(&rt, refusal),
     }
 }

@@ -49,6 +49,10 @@ module _ {out₀ : List ℕ} {at₀ : ℕ} {text out : List ℕ} {at : ℕ} wher
   unfolding laid
   all-put l = record { bytes = l.bytes; place = omega (arith, l.place) }
 
+-- the output may be left as it is then
+pub left_so : {out : List ℕ} {at : ℕ} {text exit end : List ℕ} {r : ℕ} → Put out at text exit r → end ≡ exit → Put out at text end r
+left_so p e = record { bytes = e ∙ p.bytes; place = p.place }
+
 -- in an output with room for it a text stands whole
 laid-sets : (xs out : List ℕ) (at : ℕ) → laid out at xs ≡ sets out at xs
 unfolding laid

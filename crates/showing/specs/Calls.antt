@@ -1,10 +1,10 @@
 -- What the call answers, and what it leaves in the lent output. Assumes nothing.
-use Rattle.std.specs.Prelude.{ℕ, cond, List, ◌++◌, leb, length, drop, Err}
-use Rattle.model.specs.Answers.{accept, Verdict, on_accepted, and_then}
+use Rattle.std.specs.Prelude.{ℕ, cond, List, ◌++◌, leb, length, drop, Err, Result}
+use Rattle.model.specs.Answers.{accept, Verdict, on_accepted, answered, and_then}
+use Rattle.model.specs.declared.Refusal.{Refusal}
 use Rattle.model.specs.declared.Refusal.TheVariants.{Output}
 use Rattle.taskfile.specs.File.{task_of, verdict}
 use Rattle.showing.specs.Text.{text_of}
-use Rattle.showing.specs.declared.Shown.{Shown}
 
 -- the text of a file's task
 abbrev pub shown_text : List ℕ → List ℕ
@@ -18,9 +18,9 @@ room_row size length = cond (leb size length) accept (Err Output)
 unfoldable pub show_verdict : List ℕ → List ℕ → Verdict
 show_verdict file out = and_then (verdict file) (room_row (length (shown_text file)) (length out))
 
--- the text's length, and 0 on a refusal
-unfoldable pub show_answer : List ℕ → List ℕ → Shown
-show_answer file out = record { verdict = show_verdict file out; length = on_accepted (show_verdict file out) (length (shown_text file)) 0 }
+-- the answer: the text's length, or the refusal
+unfoldable pub show_answer : List ℕ → List ℕ → Result ℕ Refusal
+show_answer file out = answered (show_verdict file out) (length (shown_text file))
 
 -- the output after the call: it begins with the text, and the bytes past that are as they were; on a refusal all are
 unfoldable pub show_output : List ℕ → List ℕ → List ℕ

@@ -13,15 +13,7 @@ ghost use Rattle.showing.specs.Calls.{shown_text, room_row, show_answer, show_ou
 
 use model::{Header, Refusal, Scratch};
 
-// What is answered: the verdict, and the length of the text.
-#[derive(Clone, Copy)]
-pub struct Shown {
-    pub verdict: Result<(), Refusal>,
-    pub length: usize,
-}
-
-// The functions below put a text into an output from a place on, as far as the output goes, and answer the place behind the text.
-
+// Puts a byte into an output at a place, if it goes so far, and answers the place after it.
 fn put_byte(out: &mut [u8], at: usize, byte: u8) -> usize
     requires { Room at (byte ∷ []) }
     ensures { Put out.old at (byte ∷ []) out.new result }
@@ -32,20 +24,7 @@ fn put_byte(out: &mut [u8], at: usize, byte: u8) -> usize
     at + 1
 }
 
-fn put_word(out: &mut [u8], at: usize, word: &[u8]) -> usize
-    requires { Room at word.now }
-    ensures { Put out.old at word.now out.new result }
-{
-    let mut next = at;
-    let mut i = 0;
-    while i < word.len() {
-        next = put_byte(out, next, word[i]);
-        i += 1;
-    }
-    next
-}
-
-// A number in digits.
+// Puts a number in digits.
 fn put_number(out: &mut [u8], at: usize, n: u32) -> usize
     requires { Room at (spelled n) }
     ensures { Put out.old at (spelled n) out.new result }
@@ -57,159 +36,194 @@ fn put_number(out: &mut [u8], at: usize, n: u32) -> usize
     put_byte(out, next, b'0' + (n % 10) as u8)
 }
 
-// A number behind a space.
-fn put_spaced(out: &mut [u8], at: usize, n: u32) -> usize
-    requires { Room at (space ∷ spelled n) }
-    ensures { Put out.old at (space ∷ spelled n) out.new result }
-{
-    let next = put_byte(out, at, b' ');
-    put_number(out, next, n)
+// An output, and the place after the text that is put into it so far.
+#[derive(Drop)]
+struct Page<'a> {
+    out: &'a mut [u8],
+    at: usize,
 }
 
-// A word and a number, with which every line begins.
-fn put_named(out: &mut [u8], at: usize, word: &[u8], n: u32) -> usize
-    requires { Room at (word.now ++ (space ∷ spelled n)) }
-    ensures { Put out.old at (word.now ++ (space ∷ spelled n)) out.new result }
-{
-    let next = put_word(out, at, word);
-    put_spaced(out, next, n)
-}
-
-// A line with one number.
-fn put_setting(out: &mut [u8], at: usize, word: &[u8], n: u32) -> usize
-    requires { Room at (line_text word.now (n ∷ [])) }
-    ensures { Put out.old at (line_text word.now (n ∷ [])) out.new result }
-{
-    let next = put_named(out, at, word, n);
-    put_byte(out, next, b'\n')
-}
-
-// The line of a range of memory blocks.
-fn put_scratch(out: &mut [u8], at: usize, range: Scratch) -> usize
-    requires { Room at (line_text scratch_word (range.first ∷ range.count ∷ [])) }
-    ensures { Put out.old at (line_text scratch_word (range.first ∷ range.count ∷ [])) out.new result }
-{
-    let first = put_named(out, at, b"scratch", range.first);
-    let second = put_spaced(out, first, range.count);
-    put_byte(out, second, b'\n')
-}
-
-// What block k of a file reads.
-fn put_reads(out: &mut [u8], at: usize, file: &[u8], k: usize) -> usize
-    requires accepted { IsAccepted file.now × (1 ≤ k) × (k ≤ (counts file.now).blocks + (counts file.now).preempters) }
-    requires room { Room at (spaced (entry_reads file.now k)) }
-    ensures { Put out.old at (spaced (entry_reads file.now k)) out.new result }
-{
-    let count = taskfile::read_count(file, k);
-    let mut next = at;
-    let mut j = 0;
-    while j < count {
-        next = put_spaced(out, next, taskfile::read(file, k, j));
-        j += 1;
+// Each function puts a text at the place, as far as the output goes; the place is then after it.
+impl Page<'_> {
+    fn put_byte(&mut self, byte: u8)
+        requires { Room self.old.at (byte ∷ []) }
+        ensures same { self.new.out.ghost_name ≡ self.old.out.ghost_name }
+        ensures put { Put self.old.out.now self.old.at (byte ∷ []) self.new.out.now self.new.at }
+    {
+        self.at = put_byte(self.out, self.at, byte);
     }
-    next
-}
 
-// The line of block k of a file: a word, a number, and what the block reads.
-fn put_entry(out: &mut [u8], at: usize, word: &[u8], n: u32, file: &[u8], k: usize) -> usize
-    requires accepted { IsAccepted file.now × (1 ≤ k) × (k ≤ (counts file.now).blocks + (counts file.now).preempters) }
-    requires room { Room at (line_text word.now (n ∷ entry_reads file.now k)) }
-    ensures { Put out.old at (line_text word.now (n ∷ entry_reads file.now k)) out.new result }
-{
-    let named = put_named(out, at, word, n);
-    let read = put_reads(out, named, file, k);
-    put_byte(out, read, b'\n')
-}
+    fn put_word(&mut self, word: &[u8])
+        requires { Room self.old.at word.now }
+        ensures same { self.new.out.ghost_name ≡ self.old.out.ghost_name }
+        ensures put { Put self.old.out.now self.old.at word.now self.new.out.now self.new.at }
+    {
+        for byte in word {
+            self.put_byte(*byte);
+        }
+    }
 
-// The first four lines of a header.
-fn put_limits(out: &mut [u8], at: usize, header: Header) -> usize
-    requires { Room at (limits_text header) }
-    ensures { Put out.old at (limits_text header) out.new result }
-{
-    let id = put_setting(out, at, b"task", header.id);
-    let lines = put_setting(out, id, b"lines", header.line_count as u32);
-    let limit = put_setting(out, lines, b"limit", header.limit);
-    put_setting(out, limit, b"sampler", header.second_limit)
-}
+    // A number in digits. The function above holds the place in a register; a recursion over the page took a sixth longer for a whole text.
+    fn put_number(&mut self, n: u32)
+        requires { Room self.old.at (spelled n) }
+        ensures same { self.new.out.ghost_name ≡ self.old.out.ghost_name }
+        ensures put { Put self.old.out.now self.old.at (spelled n) self.new.out.now self.new.at }
+    {
+        self.at = put_number(self.out, self.at, n);
+    }
 
-fn put_header(out: &mut [u8], at: usize, header: Header) -> usize
-    requires { Room at (header_text header) }
-    ensures { Put out.old at (header_text header) out.new result }
-{
-    let limits = put_limits(out, at, header);
-    let reload = put_setting(out, limits, b"reload", header.reload);
-    let switch = put_setting(out, reload, b"switch", header.switch);
-    put_scratch(out, switch, header.scratch)
-}
+    // A number behind a space.
+    fn put_spaced(&mut self, n: u32)
+        requires { Room self.old.at (space ∷ spelled n) }
+        ensures same { self.new.out.ghost_name ≡ self.old.out.ghost_name }
+        ensures put { Put self.old.out.now self.old.at (space ∷ spelled n) self.new.out.now self.new.at }
+    {
+        self.put_byte(b' ');
+        self.put_number(n);
+    }
 
-// Basic block i of a file, from 0.
-fn put_block(out: &mut [u8], at: usize, file: &[u8], i: usize) -> usize
-    requires accepted { IsAccepted file.now × (i < block_count (task_of file.now)) }
-    requires room { Room at (block_text (block_at (task_of file.now) i)) }
-    ensures { Put out.old at (block_text (block_at (task_of file.now) i)) out.new result }
-{
-    let k = i + 1;
-    let time = taskfile::time(file, k);
-    if taskfile::armed(file, k) {
-        put_entry(out, at, b"armed", time, file, k)
-    } else {
-        put_entry(out, at, b"block", time, file, k)
+    // A word and a number, with which every line begins.
+    fn put_named(&mut self, word: &[u8], n: u32)
+        requires { Room self.old.at (word.now ++ (space ∷ spelled n)) }
+        ensures same { self.new.out.ghost_name ≡ self.old.out.ghost_name }
+        ensures put { Put self.old.out.now self.old.at (word.now ++ (space ∷ spelled n)) self.new.out.now self.new.at }
+    {
+        self.put_word(word);
+        self.put_spaced(n);
+    }
+
+    // A line with one number.
+    fn put_setting(&mut self, word: &[u8], n: u32)
+        requires { Room self.old.at (line_text word.now (n ∷ [])) }
+        ensures same { self.new.out.ghost_name ≡ self.old.out.ghost_name }
+        ensures put { Put self.old.out.now self.old.at (line_text word.now (n ∷ [])) self.new.out.now self.new.at }
+    {
+        self.put_named(word, n);
+        self.put_byte(b'\n');
+    }
+
+    // The line of a range of memory blocks.
+    fn put_scratch(&mut self, range: Scratch)
+        requires { Room self.old.at (line_text scratch_word (range.first ∷ range.count ∷ [])) }
+        ensures same { self.new.out.ghost_name ≡ self.old.out.ghost_name }
+        ensures put { Put self.old.out.now self.old.at (line_text scratch_word (range.first ∷ range.count ∷ [])) self.new.out.now self.new.at }
+    {
+        self.put_named(b"scratch", range.first);
+        self.put_spaced(range.count);
+        self.put_byte(b'\n');
+    }
+
+    // What block k of a file reads.
+    fn put_reads(&mut self, file: &[u8], k: usize)
+        requires accepted { IsAccepted file.now × (1 ≤ k) × (k ≤ (counts file.now).blocks + (counts file.now).preempters) }
+        requires room { Room self.old.at (spaced (entry_reads file.now k)) }
+        ensures same { self.new.out.ghost_name ≡ self.old.out.ghost_name }
+        ensures put { Put self.old.out.now self.old.at (spaced (entry_reads file.now k)) self.new.out.now self.new.at }
+    {
+        let count = taskfile::read_count(file, k);
+        for j in 0..count {
+            self.put_spaced(taskfile::read(file, k, j));
+        }
+    }
+
+    // The line of block k of a file: a word, a number, and what the block reads.
+    fn put_entry(&mut self, word: &[u8], n: u32, file: &[u8], k: usize)
+        requires accepted { IsAccepted file.now × (1 ≤ k) × (k ≤ (counts file.now).blocks + (counts file.now).preempters) }
+        requires room { Room self.old.at (line_text word.now (n ∷ entry_reads file.now k)) }
+        ensures same { self.new.out.ghost_name ≡ self.old.out.ghost_name }
+        ensures put { Put self.old.out.now self.old.at (line_text word.now (n ∷ entry_reads file.now k)) self.new.out.now self.new.at }
+    {
+        self.put_named(word, n);
+        self.put_reads(file, k);
+        self.put_byte(b'\n');
+    }
+
+    // The first four lines of a header.
+    fn put_limits(&mut self, header: Header)
+        requires { Room self.old.at (limits_text header) }
+        ensures same { self.new.out.ghost_name ≡ self.old.out.ghost_name }
+        ensures put { Put self.old.out.now self.old.at (limits_text header) self.new.out.now self.new.at }
+    {
+        self.put_setting(b"task", header.id);
+        self.put_setting(b"lines", header.line_count as u32);
+        self.put_setting(b"limit", header.limit);
+        self.put_setting(b"sampler", header.second_limit);
+    }
+
+    fn put_header(&mut self, header: Header)
+        requires { Room self.old.at (header_text header) }
+        ensures same { self.new.out.ghost_name ≡ self.old.out.ghost_name }
+        ensures put { Put self.old.out.now self.old.at (header_text header) self.new.out.now self.new.at }
+    {
+        self.put_limits(header);
+        self.put_setting(b"reload", header.reload);
+        self.put_setting(b"switch", header.switch);
+        self.put_scratch(header.scratch);
+    }
+
+    // Basic block i of a file, from 0.
+    fn put_block(&mut self, file: &[u8], i: usize)
+        requires accepted { IsAccepted file.now × (i < block_count (task_of file.now)) }
+        requires room { Room self.old.at (block_text (block_at (task_of file.now) i)) }
+        ensures same { self.new.out.ghost_name ≡ self.old.out.ghost_name }
+        ensures put { Put self.old.out.now self.old.at (block_text (block_at (task_of file.now) i)) self.new.out.now self.new.at }
+    {
+        let k = i + 1;
+        let time = taskfile::time(file, k);
+        if taskfile::armed(file, k) {
+            self.put_entry(b"armed", time, file, k);
+        } else {
+            self.put_entry(b"block", time, file, k);
+        }
+    }
+
+    fn put_blocks(&mut self, file: &[u8])
+        requires accepted { IsAccepted file.now }
+        requires room { Room self.old.at (blocks_text (task_of file.now).blocks) }
+        ensures same { self.new.out.ghost_name ≡ self.old.out.ghost_name }
+        ensures put { Put self.old.out.now self.old.at (blocks_text (task_of file.now).blocks) self.new.out.now self.new.at }
+    {
+        let count = taskfile::block_count(file);
+        for i in 0..count {
+            self.put_block(file, i);
+        }
+    }
+
+    // Preempter i of a file, from 0.
+    fn put_preempter(&mut self, file: &[u8], i: usize)
+        requires accepted { IsAccepted file.now × (i < preempter_count (task_of file.now)) }
+        requires room { Room self.old.at (preempter_text (get_or (task_of file.now).preempters i no_preempter)) }
+        ensures same { self.new.out.ghost_name ≡ self.old.out.ghost_name }
+        ensures put { Put self.old.out.now self.old.at (preempter_text (get_or (task_of file.now).preempters i no_preempter)) self.new.out.now self.new.at }
+    {
+        let id = taskfile::preempter_id(file, i);
+        let k = 1 + taskfile::block_count(file) + i;
+        self.put_entry(b"preempter", id, file, k);
+    }
+
+    fn put_preempters(&mut self, file: &[u8])
+        requires accepted { IsAccepted file.now }
+        requires room { Room self.old.at (preempters_text (task_of file.now).preempters) }
+        ensures same { self.new.out.ghost_name ≡ self.old.out.ghost_name }
+        ensures put { Put self.old.out.now self.old.at (preempters_text (task_of file.now).preempters) self.new.out.now self.new.at }
+    {
+        let count = taskfile::preempter_count(file);
+        for i in 0..count {
+            self.put_preempter(file, i);
+        }
     }
 }
 
-fn put_blocks(out: &mut [u8], at: usize, file: &[u8]) -> usize
-    requires { IsAccepted file.now × Room at (blocks_text (task_of file.now).blocks) }
-    ensures { Put out.old at (blocks_text (task_of file.now).blocks) out.new result }
-{
-    let count = taskfile::block_count(file);
-    let mut next = at;
-    let mut i = 0;
-    while i < count {
-        next = put_block(out, next, file, i);
-        i += 1;
-    }
-    next
-}
-
-// Preempter i of a file, from 0.
-fn put_preempter(out: &mut [u8], at: usize, file: &[u8], i: usize) -> usize
-    requires accepted { IsAccepted file.now × (i < preempter_count (task_of file.now)) }
-    requires room { Room at (preempter_text (get_or (task_of file.now).preempters i no_preempter)) }
-    ensures { Put out.old at (preempter_text (get_or (task_of file.now).preempters i no_preempter)) out.new result }
-{
-    let id = taskfile::preempter_id(file, i);
-    put_entry(
-        out,
-        at,
-        b"preempter",
-        id,
-        file,
-        1 + taskfile::block_count(file) + i,
-    )
-}
-
-fn put_preempters(out: &mut [u8], at: usize, file: &[u8]) -> usize
-    requires { IsAccepted file.now × Room at (preempters_text (task_of file.now).preempters) }
-    ensures { Put out.old at (preempters_text (task_of file.now).preempters) out.new result }
-{
-    let count = taskfile::preempter_count(file);
-    let mut next = at;
-    let mut i = 0;
-    while i < count {
-        next = put_preempter(out, next, file, i);
-        i += 1;
-    }
-    next
-}
-
-// The text of an accepted file's task, from the beginning of an output on.
+// Puts the text of an accepted file's task into an output, from its beginning on as far as it goes, and answers the text's length.
 fn put_text(out: &mut [u8], file: &[u8]) -> usize
     requires { IsAccepted file.now }
     ensures { Put out.old 0 (shown_text file.now) out.new result }
 {
-    let header = put_header(out, 0, taskfile::header(file));
-    let blocks = put_blocks(out, header, file);
-    put_preempters(out, blocks, file)
+    let mut page = Page { out, at: 0 };
+    page.put_header(taskfile::header(file));
+    page.put_blocks(file);
+    page.put_preempters(file);
+    page.at
 }
 
 // The length of that text.
@@ -232,35 +246,24 @@ fn has_room(file: &[u8], room: usize) -> bool
     text_length(file) <= room
 }
 
-// The answer to a file and an output of this length: 1 to 5, and 9.
+// Refuses a file, or an output of this length: 1 to 5, and 9.
 fn check(file: &[u8], room: usize) -> Result<(), Refusal>
     ensures { result ≡ and_then (verdict file.now) (room_row (length (shown_text file.now)) room) }
 {
-    let verdict = taskfile::check(file);
-    match verdict {
-        Ok(()) => {
-            if has_room(file, room) {
-                Ok(())
-            } else {
-                Err(Refusal::Output)
-            }
-        }
-        Err(_) => verdict,
+    taskfile::check(file)?;
+    if has_room(file, room) {
+        Ok(())
+    } else {
+        Err(Refusal::Output)
     }
 }
 
-// Writes the text of a file's task into the output, or refuses it: 1 to 5 for the file, and then 9 where the output is shorter than the text.
-// The output begins with the text, and its bytes past that are as they were; on a refusal all are.
-pub fn show(file: &[u8], out: &mut [u8]) -> Shown
+// Writes the text of a file's task into the output and answers its length, or refuses it: 1 to 5 for the file, and then 9 where the output is
+// shorter than the text. The output begins with the text, and its bytes past that are as they were; on a refusal all are.
+pub fn show(file: &[u8], out: &mut [u8]) -> Result<usize, Refusal>
     ensures value { result ≡ show_answer file.now out.old }
     ensures out_after { out.new ≡ show_output file.now out.old }
 {
-    let verdict = check(file, out.len());
-    match verdict {
-        Ok(()) => {
-            let length = put_text(out, file);
-            Shown { verdict, length }
-        }
-        Err(_) => Shown { verdict, length: 0 },
-    }
+    check(file, out.len())?;
+    Ok(put_text(out, file))
 }

@@ -39,15 +39,6 @@ fn scan_input(rt: &impl Input, addresses: &mut [u32]) -> io::Result<Scan> {
     Ok(scan)
 }
 
-// The first bytes of a file in a longer buffer; all where it has no more.
-fn first(file: &[u8], length: usize) -> &[u8] {
-    if length <= file.len() {
-        &file[..length]
-    } else {
-        file
-    }
-}
-
 // Writes the file, or says why there is none.
 fn write_file(
     rt: &(impl Print + Eprint),
@@ -56,13 +47,9 @@ fn write_file(
     settings: Settings,
 ) -> io::Result<()> {
     let mut file = [0u8; 33280];
-    let made = scan.finish(addresses, settings, &mut file);
-    let verdict = made.verdict;
-    match verdict {
-        Ok(()) => desk::print(rt, first(&file, made.length)),
-        Err(refusal) => {
-            desk::report_refusal(rt, refusal, answers::refusal_place(refusal))
-        }
+    match scan.finish(addresses, settings, &mut file) {
+        Ok(length) => desk::print_page(rt, &file, length),
+        Err(refusal) => desk::report_refusal(rt, refusal, refusal.place()),
     }
 }
 

@@ -2,7 +2,7 @@
 -- Assumes nothing.
 use Rattle.std.specs.Prelude.{None}
 use Prim.Native.Nat.{ℕ, zero, suc, ◌*◌, ◌/◌, ◌^◌, ◌<◌}
-use mathlib.Core.Path.{◌≡◌}
+use mathlib.Core.Path.{◌≡◌, refl}
 use mathlib.Core.Bool.{true}
 use mathlib.Core.List.{List, [], ◌∷◌}
 use native.Mathlib.Nat.{zero-add, div-le_self}
@@ -13,7 +13,7 @@ use lib.Seq.{take-append_seam}
 use Rattle.model.proofs.Lowest.{lowest-nowhere}
 use Rattle.block.specs.Bytes.{Each}
 use Rattle.block.proofs.Each.{each_of, each_map}
-use Rattle.taskfile.specs.File.{header_numbers, counts_in_range, scratch_in_range, header_in_range, EntryWithin, Within}
+use Rattle.taskfile.specs.File.{header_numbers, counts_in_range, scratch_in_range, header_in_range, EntryWithin, Within, file_of}
 use Rattle.taskfile.proofs.Tasks.{file-then-task}
 use Rattle.tracing.specs.Din.{lines_of, line_right, address_of, malformed_line, addresses_of}
 use Rattle.tracing.specs.Traces.{blocks_for, traced_block, group_at, traced_blocks, traced_task}
@@ -89,6 +89,8 @@ pub traced-accepted : TracedAccepted
 unfolding made_answer made_output answer_of output_of
 traced-accepted s text out n e =
     let rows = accepted-rows s (malformed_line text) (addresses_of text) out e in
-    let k = known s (addresses_of text) rows.traceable in
-    rw (e, take-append_seam)
-    (file-then-task (traced_task s (addresses_of text)) (within s (addresses_of text) k (addresses-small text rows.lines) n))
+    let k = known s (addresses_of text) rows.traceable in (
+      length (file_of (traced_task s (addresses_of text))),
+      rw e refl,
+      rw (e, take-append_seam) (file-then-task (traced_task s (addresses_of text)) (within s (addresses_of text) k (addresses-small text rows.lines) n)),
+    )

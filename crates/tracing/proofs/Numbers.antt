@@ -1,6 +1,8 @@
 -- The numbers of a block, one more stored, and the first of some addresses.
 -- Assumes nothing.
 use Prim.Native.Nat.{ℕ, ◌+◌, ◌<◌, ◌≤◌, min}
+use Rattle.std.specs.Ordering.{ord_min, nat_cmp}
+use Rattle.std.proofs.lemmas.Bool.Decides.{nat_tests}
 use mathlib.Core.Path.{◌≡◌, sym, ◌∙◌}
 use mathlib.Core.Logic.{by_cases}
 use mathlib.Core.List.{List, [], ◌∷◌, ◌++◌, map, map-append}
@@ -22,3 +24,7 @@ take-least n xs = by_cases (dec_le n (length xs)) part whole
 
     whole : (n ≤ length xs → ⊥) → take (min n (length xs)) xs ≡ take n xs
     whole h = take_all (min n (length xs)) xs (omega arith) ∙ sym (take_all n xs (omega arith))
+
+-- `std::cmp::min` of two numbers
+pub smaller : (a b : ℕ) → ord_min nat_cmp a b ≡ min a b
+smaller a b = grind (arith, nat_tests)

@@ -1,10 +1,10 @@
 -- One turn of a scan: what is left of a piece, scanned on, comes to the same after one byte more. So a scan goes ahead over bytes that are no
 -- line feeds.
 -- Assumes nothing.
-use Prim.Native.Nat.{ℕ, ◌+◌, ◌<◌, ◌≤◌}
+use Prim.Native.Nat.{ℕ, ◌+◌, ◌<◌}
 use mathlib.Core.Path.{◌≡◌, refl, ◌∙◌}
 use mathlib.Core.Bool.{false}
-use mathlib.Core.List.{List}
+use mathlib.Core.List.{List, [], ◌∷◌}
 use native.Mathlib.Numerals.{add-one}
 use native.Mathlib.Omega.{arith}
 use lib.Dec.{eqb}
@@ -12,41 +12,44 @@ use lib.ListN.{length, get_or, drop}
 use lib.Seq.{drop-cons}
 use Rattle.tracing.specs.Din.{line_feed}
 use Rattle.tracing.specs.Scans.{byte_added, after, kept_after, scanned, kept, Ahead}
-use Rattle.tracing.specs.declared.Position.{Position}
 use Rattle.tracing.specs.declared.Scan.{Scan}
 
-module _ (piece : List ℕ) (i : ℕ) (h : i < length piece) (scan next : Scan) (e : next ≡ after scan (get_or piece i 0)) where
-  pub scanned-turn : scanned next (drop (i + 1) piece) ≡ scanned scan (drop i piece)
-  unfolding scanned
-  scanned-turn = rw (add-one, drop-cons piece i 0 h, e)
+-- where no byte is left
+pub scanned-none : (s : Scan) (bs : List ℕ) → length bs ≡ 0 → scanned s bs ≡ s
+unfolding scanned
+scanned-none s [] e = refl
+scanned-none s (b ∷ bs) e = absurd (omega arith)
 
-  pub kept-turn : (addresses new : List ℕ) → new ≡ kept_after scan (get_or piece i 0) addresses
-      → kept next (drop (i + 1) piece) new ≡ kept scan (drop i piece) addresses
-  unfolding kept
-  kept-turn addresses new p = rw (add-one, drop-cons piece i 0 h, e, p)
+pub kept_none : (s : Scan) (bs addresses : List ℕ) → length bs ≡ 0 → kept s bs addresses ≡ addresses
+unfolding kept
+kept_none s [] addresses e = refl
+kept_none s (b ∷ bs) addresses e = absurd (omega arith)
 
-pub ahead_none : (piece : List ℕ) (s : Scan) (at : ℕ) → at ≤ length piece → Ahead piece s at (record { scan = s; at = at })
-ahead_none piece s at h = record { later = omega arith; within = h; same = refl; keeps = λ addresses. refl }
+pub ahead_none : (s : Scan) (rest : List ℕ) → Ahead s rest s rest
+ahead_none s rest = record { shorter = omega arith; same = refl; keeps = λ addresses. refl }
 
 -- one byte more that is no line feed
-pub ahead_more : (piece : List ℕ) (s : Scan) (at : ℕ) (scan next : Scan) (i : ℕ) → Ahead piece s at (record { scan = scan; at = i }) → i < length piece
-    → eqb (get_or piece i 0) line_feed ≡ false → next ≡ byte_added scan (get_or piece i 0) → Ahead piece s at (record { scan = next; at = i + 1 })
-unfolding after kept_after
-ahead_more piece s at scan next i a h f e =
-    let step : next ≡ after scan (get_or piece i 0) = e ∙ rw f in
+pub ahead_more : (s : Scan) (rest : List ℕ) (r : Scan) (b : ℕ) (left : List ℕ) → Ahead s rest r (b ∷ left) → eqb b line_feed ≡ false
+    → Ahead s rest (byte_added r b) left
+unfolding scanned kept after kept_after
+ahead_more s rest r b left a f =
     record {
-      later = omega (arith, a.later);
-      within = omega arith;
-      same = scanned-turn piece i h scan next step ∙ a.same;
-      keeps = λ addresses. kept-turn piece i h scan next step addresses addresses (rw f) ∙ a.keeps addresses;
+      shorter = omega (arith, a.shorter);
+      same = rw f at a.same;
+      keeps = λ addresses. rw f at (a.keeps addresses);
     }
 
+-- the same, at a place of what is left
+pub ahead-at : (s : Scan) (rest : List ℕ) (r : Scan) (left : List ℕ) (i : ℕ) → Ahead s rest r (drop i left) → i < length left
+    → eqb (get_or left i 0) line_feed ≡ false → Ahead s rest (byte_added r (get_or left i 0)) (drop (i + 1) left)
+ahead-at s rest r left i a h f = rw add-one (ahead_more s rest r (get_or left i 0) _ (rw (drop-cons left i 0 h) at a) f)
+
 -- one piece of the way after another
-pub ahead-both : (piece : List ℕ) (s : Scan) (at : ℕ) (p r : Position) → Ahead piece s at p → Ahead piece p.scan p.at r → Ahead piece s at r
-ahead-both piece s at p r a b =
+pub ahead-both : (s : Scan) (rest : List ℕ) (p : Scan) (between : List ℕ) (r : Scan) (left : List ℕ) → Ahead s rest p between → Ahead p between r left
+    → Ahead s rest r left
+ahead-both s rest p between r left a b =
     record {
-      later = omega (arith, a.later, b.later);
-      within = b.within;
+      shorter = omega (arith, a.shorter, b.shorter);
       same = b.same ∙ a.same;
       keeps = λ addresses. b.keeps addresses ∙ a.keeps addresses;
     }

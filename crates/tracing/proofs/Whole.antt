@@ -2,7 +2,7 @@
 -- records are found than there is room for, both are refused. A room that is too small is refused
 -- first.
 -- Assumes nothing.
-use Rattle.std.specs.Prelude.{Err, None, Ok, Option, Some}
+use Rattle.std.specs.Prelude.{Err, None, Ok, Option, Result, Some}
 use Prim.Native.Nat.{ℕ, ◌+◌, ◌^◌, ◌<◌, ◌≤◌}
 use mathlib.Core.Path.{◌≡◌, refl, sym, ap, ◌∙◌}
 use mathlib.Core.Bool.{Bool, true, false, cond, ◌&&◌}
@@ -16,7 +16,8 @@ use lib.Dec.{eqb, leb}
 use lib.ListN.{length, take, drop, set, length-set, length-take}
 use lib.Seq.{take_at, sets, sets-eq, length-sets}
 use Rattle.model.specs.Task.{Task}
-use Rattle.model.specs.Answers.{accept, Verdict, on_accepted, and_then, output_row}
+use Rattle.model.specs.Answers.{accept, Verdict, on_accepted, answered, and_then, output_row}
+use Rattle.model.specs.declared.Refusal.{Refusal}
 use Rattle.model.specs.declared.Refusal.TheVariants.{Output, OutOfRange}
 use Rattle.tracing.specs.Din.{line_feed, malformed_line, addresses_of}
 use Rattle.tracing.specs.Traces.{traced_task}
@@ -26,7 +27,6 @@ use Rattle.tracing.specs.Calls.{least_room, room_row, room_answer, room_output}
 use Rattle.tracing.specs.Statements.{Pieces, ScannedWhole}
 use Rattle.tracing.specs.declared.Scan.{Scan}
 use Rattle.tracing.specs.declared.Settings.{Settings}
-use Rattle.tracing.specs.declared.Traced.{Traced}
 use Rattle.tracing.proofs.Groups.{known, group-few, many-refused}
 use Rattle.tracing.proofs.Rows.{accepted-rows}
 use Rattle.tracing.proofs.Scanning.{scanned-place, scanned-records, scanned-kept, somewhere}
@@ -34,7 +34,7 @@ use Rattle.tracing.proofs.Scanning.{scanned-place, scanned-records, scanned-kept
 -- a verdict and two tasks that are the same where it accepts
 alike : (v : Verdict) (t u : Task) (out : List ℕ) → (v ≡ accept → t ≡ u) → (answer_of v t ≡ answer_of v u) × (output_of v t out ≡ output_of v u out)
 unfolding answer_of output_of
-alike (Ok u) t u out e = rw (e refl) (refl, refl)
+alike (Ok v) t u out e = rw (e refl) (refl, refl)
 alike (Err x) t u out e = (refl, refl)
 
 module _ (s : Settings) (malformed : Option ℕ) (xs ys out : List ℕ) where
@@ -103,19 +103,18 @@ kept-length s (b ∷ bs) room = kept-length (after s b) bs (kept_after s b room)
     go false = refl
 
 -- two rooms of one length answer and leave the same, if what comes after their row does
-rooms-alike : (old new out : List ℕ) (a b : Traced) (x y : List ℕ) → length new ≡ length old → (least_room ≤ length old → (a ≡ b) × (x ≡ y))
+rooms-alike : (old new out : List ℕ) (a b : Result ℕ Refusal) (x y : List ℕ) → length new ≡ length old → (least_room ≤ length old → (a ≡ b) × (x ≡ y))
     → (room_answer new a ≡ room_answer old b) × (room_output new x out ≡ room_output old y out)
 unfolding room_row room_answer room_output
 rooms-alike old new out a b x y e h = rw e (go (leb least_room (length old)) refl)
   where
     go : (t : Bool) → leb least_room (length old) ≡ t → let row = cond t accept (Err Output) in
-        let refused : Traced = record { verdict = row; length = 0 } in
-        (on_accepted row a refused ≡ on_accepted row b refused) × (on_accepted row x out ≡ on_accepted row y out)
+        (on_accepted row a (answered row 0) ≡ on_accepted row b (answered row 0)) × (on_accepted row x out ≡ on_accepted row y out)
     go true w = h (leb-true _ _ w)
     go false w = (refl, refl)
 
 -- a room that is large enough changes nothing
-pub room-enough : (room out : List ℕ) (a : Traced) (x : List ℕ) → least_room ≤ length room → (room_answer room a ≡ a) × (room_output room x out ≡ x)
+pub room-enough : (room out : List ℕ) (a : Result ℕ Refusal) (x : List ℕ) → least_room ≤ length room → (room_answer room a ≡ a) × (room_output room x out ≡ x)
 unfolding room_row room_answer room_output
 room-enough room out a x h = rw (le-leb least_room (length room) h) (refl, refl)
 

@@ -1,7 +1,8 @@
 -- What the calls answer, and what they leave in the lent output (document 02, item 11). Assumes nothing.
-use Rattle.std.specs.Prelude.{ℕ, ◌*◌, ◌≡◌, Bool, true, cond, ◌&&◌, List, [], ◌∷◌, ◌++◌, leb, length, take, drop, Err, Option}
+use Rattle.std.specs.Prelude.{ℕ, ◌*◌, ◌≡◌, Bool, true, cond, ◌&&◌, List, [], ◌∷◌, ◌++◌, leb, length, take, drop, Err, Option, Result}
 use Rattle.model.specs.Task.{Block, Task}
-use Rattle.model.specs.Answers.{accept, Verdict, on_accepted, refused_at, and_then, output_row}
+use Rattle.model.specs.Answers.{accept, Verdict, on_accepted, answered, refused_at, and_then, output_row}
+use Rattle.model.specs.declared.Refusal.{Refusal}
 use Rattle.model.specs.declared.Refusal.TheVariants.{Output, OutOfRange, WrongTraceLine, WrongTrace}
 use Rattle.taskfile.specs.File.{file_of}
 use Rattle.tracing.specs.Din.{malformed_line, addresses_of}
@@ -9,7 +10,6 @@ use Rattle.tracing.specs.Traces.{traced_blocks, traced_task}
 use Rattle.tracing.specs.Scans.{scan_place}
 use Rattle.tracing.specs.declared.Scan.{Scan}
 use Rattle.tracing.specs.declared.Settings.{Settings}
-use Rattle.tracing.specs.declared.Traced.{Traced}
 
 -- the bytes of the output: a file of 64 basic blocks
 abbrev pub output_size : ℕ
@@ -48,16 +48,16 @@ pub record Traceable (s : Settings) (addresses : List ℕ) : Type 0 where
   pub in-range : settings_in_range s ≡ true
   pub records : records_row s addresses ≡ accept
 
--- what is answered with a verdict: the length of the task's file, and 0 on a refusal
-unfoldable pub answer_of : Verdict → Task → Traced
-answer_of v t = record { verdict = v; length = on_accepted v (length (file_of t)) 0 }
+-- what is answered with a verdict: the length of the task's file, or the refusal
+unfoldable pub answer_of : Verdict → Task → Result ℕ Refusal
+answer_of v t = answered v (length (file_of t))
 
 -- the output after the call: it begins with the file, and the bytes past that are as they were; on a refusal all are
 unfoldable pub output_of : Verdict → Task → List ℕ → List ℕ
 output_of v t out = on_accepted v (file_of t ++ drop (length (file_of t)) out) out
 
 -- what is answered and left for a text with this malformed line, if any, and these addresses
-unfoldable pub made_answer : Settings → Option ℕ → List ℕ → List ℕ → Traced
+unfoldable pub made_answer : Settings → Option ℕ → List ℕ → List ℕ → Result ℕ Refusal
 made_answer s malformed addresses out = answer_of (verdict_of s malformed addresses out) (traced_task s addresses)
 
 unfoldable pub made_output : Settings → Option ℕ → List ℕ → List ℕ → List ℕ
@@ -68,7 +68,7 @@ made_output s malformed addresses out = output_of (verdict_of s malformed addres
 abbrev pub trace_verdict : Settings → List ℕ → List ℕ → Verdict
 trace_verdict s text out = verdict_of s (malformed_line text) (addresses_of text) out
 
-abbrev pub trace_answer : Settings → List ℕ → List ℕ → Traced
+abbrev pub trace_answer : Settings → List ℕ → List ℕ → Result ℕ Refusal
 trace_answer s text out = made_answer s (malformed_line text) (addresses_of text) out
 
 abbrev pub trace_output : Settings → List ℕ → List ℕ → List ℕ
@@ -85,14 +85,14 @@ unfoldable pub room_row : List ℕ → Verdict
 room_row room = cond (leb least_room (length room)) accept (Err Output)
 
 -- what is answered and left with a room: its row comes first, then the later ones
-unfoldable pub room_answer : List ℕ → Traced → Traced
-room_answer room later = on_accepted (room_row room) later (record { verdict = room_row room; length = 0 })
+unfoldable pub room_answer : List ℕ → Result ℕ Refusal → Result ℕ Refusal
+room_answer room later = on_accepted (room_row room) later (answered (room_row room) 0)
 
 unfoldable pub room_output : List ℕ → List ℕ → List ℕ → List ℕ
 room_output room later out = on_accepted (room_row room) later out
 
 -- the addresses are the first of the room, one for each record
-abbrev pub scan_answer : Settings → Scan → List ℕ → List ℕ → Traced
+abbrev pub scan_answer : Settings → Scan → List ℕ → List ℕ → Result ℕ Refusal
 scan_answer s scan room out = room_answer room (made_answer s (scan_place scan) (take scan.records room) out)
 
 abbrev pub scan_output : Settings → Scan → List ℕ → List ℕ → List ℕ

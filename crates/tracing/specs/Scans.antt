@@ -1,8 +1,7 @@
 -- What a scan of a text knows, byte by byte, so that a text can be scanned in pieces. That this is what the lines of the whole text say is
 -- stated in Statements. Assumes nothing.
-use Rattle.std.specs.Prelude.{ℕ, ◌+◌, ◌-◌, ◌*◌, ◌%◌, ◌^◌, ◌≤◌, ◌≡◌, Bool, cond, ◌&&◌, List, [], ◌∷◌, eqb, leb, ltb, length, drop, set, None, Option, Some}
+use Rattle.std.specs.Prelude.{ℕ, ◌+◌, ◌-◌, ◌*◌, ◌%◌, ◌^◌, ◌≤◌, ◌≡◌, Bool, cond, ◌&&◌, List, [], ◌∷◌, eqb, leb, ltb, length, set, Option, None, Some}
 use Rattle.tracing.specs.Din.{line_feed, is_label, is_space, is_hex, digit_of}
-use Rattle.tracing.specs.declared.Position.{Position}
 use Rattle.tracing.specs.declared.Scan.{Scan}
 
 -- before any byte
@@ -55,12 +54,12 @@ unfoldable pub kept : Scan → List ℕ → List ℕ → List ℕ
 kept s [] addresses = addresses
 kept s (b ∷ bs) addresses = kept (after s b) bs (kept_after s b addresses)
 
--- a scan behind some bytes of a piece that are no line feeds: what is left, scanned on, comes to the same, whatever is kept
-pub record Ahead (piece : List ℕ) (s : Scan) (at : ℕ) (r : Position) : Type 0 where
-  pub later : at ≤ r.at
-  pub within : r.at ≤ length piece
-  pub same : scanned r.scan (drop r.at piece) ≡ scanned s (drop at piece)
-  pub keeps : (addresses : List ℕ) → kept r.scan (drop r.at piece) addresses ≡ kept s (drop at piece) addresses
+-- a scan `r` that read some bytes of `rest`, none of them a line feed, and left `left`: what is left, scanned on, comes to the same, whatever
+-- is kept
+pub record Ahead (s : Scan) (rest : List ℕ) (r : Scan) (left : List ℕ) : Type 0 where
+  pub shorter : length left ≤ length rest
+  pub same : scanned r left ≡ scanned s rest
+  pub keeps : (addresses : List ℕ) → kept r left addresses ≡ kept s rest addresses
 
 -- the malformed line, where the text ends here: the one that is not ended is malformed too
 unfoldable pub scan_place : Scan → Option ℕ

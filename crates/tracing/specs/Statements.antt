@@ -1,5 +1,5 @@
 -- What is shown of traces beside the contracts (document 02, item 11). Assumes nothing.
-use Rattle.std.specs.Prelude.{ℕ, ◌^◌, ◌<◌, ◌≡◌, List, ◌++◌, length, take}
+use Rattle.std.specs.Prelude.{ℕ, ◌^◌, ◌<◌, ◌≡◌, List, ◌++◌, length, take, Ok}
 use Rattle.model.specs.Answers.{accept}
 use Rattle.taskfile.specs.File.{task_of, IsAccepted}
 use Rattle.tracing.specs.Din.{addresses_of}
@@ -19,8 +19,9 @@ pub record Narrow (s : Settings) : Type 0 where
 abbrev pub TracedAccepted : Type 0
 TracedAccepted =
     (s : Settings) (text out : List ℕ) → Narrow s → trace_verdict s text out ≡ accept
-    → let file = take (trace_answer s text out).length (trace_output s text out) in
-    IsAccepted file × (task_of file ≡ traced_task s (addresses_of text))
+    → (n : ℕ) × (trace_answer s text out ≡ Ok n) ×
+    (let file = take n (trace_output s text out) in
+    IsAccepted file × (task_of file ≡ traced_task s (addresses_of text)))
 
 -- a piece and then another come to both
 abbrev pub Pieces : Type 0

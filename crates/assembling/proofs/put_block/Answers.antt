@@ -41,11 +41,3 @@ returns-in-Preempting c =
     rw c.in-Preempting.is
     (c.close_preempter.ensures ∙
     ap (λ (l : List ℕ). numbered args.number (preempter_bytes (record { id = get_or args.numbers.now 0 0; reads = l }))) (reads (goal.at.returns-in-Preempting c).After-put_reads))
-
-pub returns-in-Unknown : goal.returns-in-Unknown
-unfolding entry_named
-returns-in-Unknown c =
-    let args = c.args in
-    rw c.in-Unknown.is
-    (c.close_basic-in-Unknown.ensures ∙
-    ap (λ (l : List ℕ). numbered args.number (basic_bytes (record { time = get_or args.numbers.now 0 0; armed = false; reads = l }))) (reads (goal.at.returns-in-Unknown c).After-put_reads))

@@ -1,37 +1,68 @@
 -- `assembling::read_lines` meets its contract.
-use native.Mathlib.Omega.{arith}
-use borrow.Author.Rules.{rules}
-use Prim.Native.Nat.{ℕ}
+use Prim.Native.Nat.{ℕ, ◌<◌}
 use mathlib.Core.Path.{◌≡◌, refl, sym, ◌∙◌}
-use borrow.Author.Tests.{not-true, not-false}
+use mathlib.Core.Bool.{false}
+use native.Mathlib.Omega.{arith}
+use borrow.Author.Tests.{eqb-true}
+use lib.Dec.{eqb}
+use Rattle.std.proofs.lemmas.Bool.Decides.{nat_tests}
+use Rattle.std.proofs.Common.{None, Some}
+use Rattle.std.proofs.lemmas.Result.{err_from_is_err_and}
+use Rattle.model.specs.declared.Refusal.TheVariants.{WrongText}
+use Rattle.assembling.specs.Words.{is_line_byte}
+use Rattle.assembling.proofs.Spans.{nothing, run_of}
 use Rattle.assembling.proofs.Lines.{read_none, read-wrong, read_more, read_all, read_whole, read_short}
 use Rattle.assembling.proofs.read_lines.Goals as goal
 
-pub loop-at-init : goal.loop-at-init
-loop-at-init c = read_none _ _ _ refl c.requires
+some : (n : ℕ) → eqb n 0 ≡ false → 0 < n
+some n e = grind (arith, nat_tests)
 
-pub returns-then-not-taken : goal.returns-then-not-taken
-returns-then-not-taken c =
-    let loop = c.loop-at in
-    let wrong = read-wrong loop.invariant _ c.loop-at-test.true c.line_end-end.ensures _ _ (c.take_line-taken.ensures.takes_line _ loop.invariant.knows loop.invariant.stored) (not-true _ c.if-not-taken.true) in
-    record { place_value = sym wrong; knows = λ e. let z : ◌≡◌ {A = ℕ} 0 1 = cc in absurd (omega arith); blocks_bound = c.take_line-taken.ensures.blocks_bound }
+pub loop-rest-init : goal.loop-rest-init
+loop-rest-init c = read_none _ _ _ refl c.requires
 
-pub loop-at-preserved : goal.loop-at-preserved
-loop-at-preserved c =
-    let loop = c.loop-at in
-    read_more loop.invariant _ c.loop-at-test.true c.line_end-end.ensures _ _ (c.take_line-taken.ensures.takes_line _ loop.invariant.knows loop.invariant.stored) (not-false _ c.if-not-taken.false)
-    c.take_line-taken.ensures.blocks_bound (search rules)
+pub returns-in_err-known-clause-refusal : goal.returns-in_err-known-clause-refusal
+returns-in_err-known-clause-refusal c =
+    let loop = c.loop-rest in
+    let none : c.take_line.result ≡ None = grind arith in
+    let is : c.in_err-known.field-0.0 ≡ WrongText loop.line = grind arith in
+    let inside = some _ (sym c.is_empty.ensures ∙ c.loop-rest-test.true) in
+    let taken = c.take_line.ensures.takes_line _ loop.invariant.knows loop.invariant.stored in
+    let left = err_from_is_err_and c.from_residual.result c.from_residual.ensures.1 in
+    rw (left.1, left.2, is, read-wrong loop.invariant inside (run_of is_line_byte _ _ _ c.split_run.ensures) _ _ taken (rw none refl)) refl
 
-pub returns-then-is_whole : goal.returns-then-is_whole
-returns-then-is_whole c =
-    let loop = c.loop-at in
-    let past = c.loop-at-test.false in
-    let whole = sym (c.is_whole.ensures _ loop.invariant.knows) ∙ c.if-is_whole.true in
+pub loop-rest-preserved-in-Some : goal.loop-rest-preserved-in-Some
+loop-rest-preserved-in-Some c =
+    let loop = c.loop-rest in
+    let is : c.take_line.result ≡ Some c.in_ok-known.known = grind arith in
+    let inside = some _ (sym c.is_empty.ensures ∙ c.loop-rest-test.true) in
+    let taken = c.take_line.ensures.takes_line _ loop.invariant.knows loop.invariant.stored in
+    read_more loop.invariant inside (run_of is_line_byte _ _ _ c.split_run.ensures) _ _ taken _ _ is (rw is at c.take_line.ensures.blocks_bound) (omega arith)
+    (rw c.in-Some.ensures.cases.0 refl)
+
+pub loop-rest-preserved : goal.loop-rest-preserved
+loop-rest-preserved c =
+    let loop = c.loop-rest in
+    let is : c.take_line.result ≡ Some c.in_ok-known.known = grind arith in
+    let inside = some _ (sym c.is_empty.ensures ∙ c.loop-rest-test.true) in
+    let taken = c.take_line.ensures.takes_line _ loop.invariant.knows loop.invariant.stored in
+    read_more loop.invariant inside (run_of is_line_byte _ _ _ c.split_run.ensures) _ _ taken _ _ is (rw is at c.take_line.ensures.blocks_bound) (omega arith)
+    (rw (nothing _ c.in-None.ensures.cases) refl)
+
+pub returns-then-is_whole-clause-refusal : goal.returns-then-is_whole-clause-refusal
+returns-then-is_whole-clause-refusal c =
+    let loop = c.loop-rest in
+    let past = eqb-true _ 0 (sym c.is_empty.ensures ∙ c.loop-rest-test.false) in
+    rw (read_whole loop.invariant past (sym (c.is_whole.ensures _ loop.invariant.knows) ∙ c.if-is_whole.true)) refl
+
+pub returns-then-is_whole-clause-knows : goal.returns-then-is_whole-clause-knows
+returns-then-is_whole-clause-knows c =
+    let loop = c.loop-rest in
+    let past = eqb-true _ 0 (sym c.is_empty.ensures ∙ c.loop-rest-test.false) in
     let all = read_all loop.invariant past in
-    record { place_value = sym (read_whole loop.invariant past whole); knows = λ e. (rw all loop.invariant.knows, rw all loop.invariant.stored); blocks_bound = loop.invariant.few }
+    (rw all loop.invariant.knows, rw all loop.invariant.stored)
 
-pub returns-else-is_whole : goal.returns-else-is_whole
-returns-else-is_whole c =
-    let loop = c.loop-at in
-    let short = sym (c.is_whole.ensures _ loop.invariant.knows) ∙ c.if-is_whole.false in
-    record { place_value = sym (read_short loop.invariant c.loop-at-test.false short); knows = λ e. let z : ◌≡◌ {A = ℕ} 0 1 = cc in absurd (omega arith); blocks_bound = loop.invariant.few }
+pub returns-else-is_whole-clause-refusal : goal.returns-else-is_whole-clause-refusal
+returns-else-is_whole-clause-refusal c =
+    let loop = c.loop-rest in
+    let past = eqb-true _ 0 (sym c.is_empty.ensures ∙ c.loop-rest-test.false) in
+    rw (read_short loop.invariant past (sym (c.is_whole.ensures _ loop.invariant.knows) ∙ c.if-is_whole.false)) refl

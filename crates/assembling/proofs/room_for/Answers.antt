@@ -1,19 +1,24 @@
 -- `assembling::room_for` meets its contract, by the kinds.
+use Rattle.std.proofs.Common.{inl, inr}
+use native.Mathlib.Omega.{arith}
+use Rattle.std.proofs.lemmas.Bool.Decides.{nat_tests}
 use Rattle.assembling.specs.Drafts.{room_for}
 use Rattle.assembling.proofs.room_for.Goals as goal
 
-pub returns-in-Basic : goal.returns-in-Basic
+pub returns-then-preempters-eq0 : goal.returns-then-preempters-eq0
 unfolding room_for
-returns-in-Basic c = rw c.in-Basic.is
+returns-then-preempters-eq0 c =
+    elim c.in-Basic.is [ inl kind ↦ rw kind (grind (arith, nat_tests)) | inr kind ↦ rw kind (grind (arith, nat_tests)) ]
 
-pub returns-in-Armed : goal.returns-in-Armed
+pub returns-else-preempters-eq0 : goal.returns-else-preempters-eq0
 unfolding room_for
-returns-in-Armed c = rw c.in-Armed.is
+returns-else-preempters-eq0 c =
+    elim c.in-Basic.is [ inl kind ↦ rw kind (grind (arith, nat_tests)) | inr kind ↦ rw kind (grind (arith, nat_tests)) ]
 
-pub returns-in-Preempting : goal.returns-in-Preempting
+pub returns-then-blocks-gt0 : goal.returns-then-blocks-gt0
 unfolding room_for
-returns-in-Preempting c = rw c.in-Preempting.is
+returns-then-blocks-gt0 c = rw c.in-Preempting.is (grind (arith, nat_tests))
 
-pub returns-in-Unknown : goal.returns-in-Unknown
+pub returns-else-blocks-gt0 : goal.returns-else-blocks-gt0
 unfolding room_for
-returns-in-Unknown c = rw c.in-Unknown.is
+returns-else-blocks-gt0 c = rw c.in-Preempting.is (grind (arith, nat_tests))

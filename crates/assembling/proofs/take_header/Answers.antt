@@ -1,26 +1,18 @@
 -- `assembling::take_header` meets its contract, test by test.
-use mathlib.Core.Path.{refl, sym, ◌∙◌}
-use mathlib.Core.Bool.{false≢true}
+use mathlib.Core.Path.{refl}
+use mathlib.Core.Bool.{and-false}
+use Rattle.assembling.proofs.Equal.{word_is}
 use Rattle.assembling.proofs.take_header.Goals as goal
+use Rattle.assembling.proofs.take_header.Goals.{else-eq-via-then-eq+else-header_right, else-eq-via-else-eq}
 
-pub returns-then-not-is_header_word : goal.returns-then-not-is_header_word
-returns-then-not-is_header_word c =
-    let word = sym c.is_header_word.ensures ∙ c.if-not-is_header_word.true in
-    record { right_value = rw word refl; knows = λ t. absurd (false≢true t); blocks_value = (refl, refl) }
+pub returns-then-header_right-clause-right_value : goal.returns-then-header_right-clause-right_value
+returns-then-header_right-clause-right_value c =
+    rw (word_is _ _ _ _ c.eq.ensures c.header_word.ensures, c.if-eq.true, ← c.header_right.ensures, c.if-header_right.true) refl
 
-pub returns-then-not-header_right : goal.returns-then-not-header_right
-returns-then-not-header_right c =
-    let word = sym c.is_header_word.ensures ∙ c.if-not-is_header_word.false in
-    let numbers = sym c.header_right.ensures ∙ c.if-not-header_right.true in
-    record { right_value = rw (word, numbers) refl; knows = λ t. absurd (false≢true t); blocks_value = (refl, refl) }
-
-pub with_numbers-requires : goal.with_numbers-requires
-with_numbers-requires c =
-    (sym c.header_right.ensures ∙ c.if-not-header_right.false, c.requires.0, c.requires.1)
-
-pub returns : goal.returns
-returns c =
-    let word = sym c.is_header_word.ensures ∙ c.if-not-is_header_word.false in
-    let numbers = sym c.header_right.ensures ∙ c.if-not-header_right.false in
-    let with = c.with_numbers.ensures in
-    record { right_value = rw (word, numbers) refl; knows = λ t d knows. with.0 d knows; blocks_value = (with.1, with.2) }
+pub returns-else-eq-clause-right_value : goal.returns-else-eq-clause-right_value
+returns-else-eq-clause-right_value c =
+    elim c.else-eq.branch [
+      | else-eq-via-then-eq+else-header_right w ↦
+          rw (word_is _ _ _ _ c.eq.ensures c.header_word.ensures, ← w.header_right.ensures, w.if-header_right.false, and-false) refl
+      | else-eq-via-else-eq w ↦ rw (word_is _ _ _ _ c.eq.ensures c.header_word.ensures, w.if-eq.false) refl
+    ]

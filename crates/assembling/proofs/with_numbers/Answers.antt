@@ -7,7 +7,7 @@ use Prim.Native.Nat.{◌≤◌}
 use lib.ListN.{length}
 use Rattle.assembling.proofs.Drafting.{scratch-two, other-one, knows-one, knows-two}
 use Rattle.assembling.proofs.with_numbers.Goals as goal
-use Rattle.assembling.proofs.with_numbers.Goals.{Start}
+use Rattle.assembling.proofs.with_numbers.Goals.{Start, then-known-eq6, else-known-eq6}
 
 -- there is a number
 some : (c : goal.Start) → 1 ≤ length c.args.numbers.now
@@ -18,12 +18,12 @@ pub bounds-numbers-0 : goal.bounds-numbers-0
 bounds-numbers-0 c = omega (arith, some (goal.at.bounds-numbers-0 c).Start)
 
 pub bounds-numbers-1 : goal.bounds-numbers-1
-bounds-numbers-1 c = let two = scratch-two _ _ c.if-given-eq6.true c.requires.0 in omega arith
+bounds-numbers-1 c = omega (arith, scratch-two _ _ c.if-known-eq6.true c.requires.0)
 
-pub returns-then-given-eq6 : goal.returns-then-given-eq6
-returns-then-given-eq6 c =
-    (λ d knows. knows-two d _ knows _ (scratch-two _ _ c.if-given-eq6.true c.requires.0) c.if-given-eq6.true, refl, refl)
-
-pub returns-else-given-eq6 : goal.returns-else-given-eq6
-returns-else-given-eq6 c =
-    (λ d knows. knows-one d _ knows _ (other-one _ _ c.if-given-eq6.false c.requires.0) c.requires.1, refl, refl)
+pub returns : goal.returns
+returns c =
+    elim c.if-known-eq6.branch [
+      | then-known-eq6 w ↦
+          rw w.known-is (λ d knows. knows-two d _ knows c.args.numbers.now (scratch-two _ _ w.if-known-eq6.true c.requires.0) w.if-known-eq6.true, refl, refl)
+      | else-known-eq6 w ↦ rw w.known-is (λ d knows. knows-one d _ knows c.args.numbers.now (other-one _ _ w.if-known-eq6.false c.requires.0) c.requires.1, refl, refl)
+    ]

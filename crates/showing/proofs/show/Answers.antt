@@ -1,38 +1,32 @@
 -- `showing::show` meets its contract: where nothing is refused, the text is put into the output, which has room for it.
-use Rattle.model.specs.Answers.{accept}
 use native.Mathlib.Omega.{arith}
-use Prim.Native.Nat.{ℕ}
-use mathlib.Core.Path.{◌≡◌, refl, sym, ap, ◌∙◌}
+use mathlib.Core.Path.{◌≡◌, refl, sym, ◌∙◌}
 use lib.ListN.{length}
-use Rattle.model.proofs.Verdicts.{both-accepted}
-use Rattle.taskfile.specs.File.{verdict}
+use Rattle.std.proofs.lemmas.Result.{err_from_is_err_and}
 use Rattle.showing.specs.Calls.{shown_text, show_verdict, show_answer, show_output}
 use Rattle.showing.proofs.Laws.{laid-whole}
 use Rattle.showing.proofs.Rows.{text-fits}
 use Rattle.showing.proofs.show.Goals as goal
-use Rattle.showing.proofs.show.Goals.{After-check-verdict}
 
--- the verdict is the one that the contract states
-decided : (c : goal.After-check-verdict) → let args = c.args in
-    c.check-verdict.result ≡ show_verdict args.file.now args.out.now
-unfolding show_verdict
-decided c = c.check-verdict.ensures
+pub returns-in_err-check-clause-value : goal.returns-in_err-check-clause-value
+unfolding show_verdict show_answer
+returns-in_err-check-clause-value c =
+    let left = err_from_is_err_and c.from_residual.result c.from_residual.ensures.1 in
+    rw (← c.check.ensures, c.in_err-check.was, left.1, left.2)
 
-pub put_text-length-requires : goal.put_text-length-requires
-put_text-length-requires c = (both-accepted (verdict c.args.file.now) _ (sym c.check-verdict.ensures ∙ c.in-Ok.is)).0
+pub returns-in_err-check-clause-out_after : goal.returns-in_err-check-clause-out_after
+unfolding show_verdict show_output
+returns-in_err-check-clause-out_after c = rw (← c.check.ensures, c.in_err-check.was) refl
 
-pub returns-in-Ok : goal.returns-in-Ok
-unfolding show_answer show_output
-returns-in-Ok c =
+pub returns-clause-value : goal.returns-clause-value
+unfolding show_verdict show_answer
+returns-clause-value c =
+    let size : c.put_text.result ≡ length (shown_text c.args.file.now) = omega (arith, c.put_text.ensures.place) in
+    rw (← c.check.ensures, c.in_ok-check.was, size) refl
+
+pub returns-clause-out_after : goal.returns-clause-out_after
+unfolding show_verdict show_output
+returns-clause-out_after c =
     let file = c.args.file.now in
     let out = c.args.out.now in
-    let right = sym (decided (goal.at.returns-in-Ok c).After-check-verdict) ∙ c.in-Ok.is in
-    let put = c.put_text-length.ensures in
-    let size : c.put_text-length.result ≡ length (shown_text file) = omega (arith, put.place) in
-    rw right
-    record { value = rw c.in-Ok.is (ap (λ (n : ℕ). record { verdict = accept; length = n }) size); out_after = put.bytes ∙ laid-whole (shown_text file) out (text-fits file out right) }
-
-pub returns-in-Err : goal.returns-in-Err
-unfolding show_answer show_output
-returns-in-Err c =
-    rw (← decided (goal.at.returns-in-Err c).After-check-verdict, c.in-Err.is) record { value = refl; out_after = refl }
+    rw (← c.check.ensures, c.in_ok-check.was) (c.put_text.ensures.bytes ∙ laid-whole (shown_text file) out (text-fits file out (sym c.check.ensures ∙ c.in_ok-check.was)))

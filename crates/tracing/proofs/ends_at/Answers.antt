@@ -1,14 +1,13 @@
 -- `tracing::ends_at` meets its contract, by its two bounds.
-use Prim.Native.Nat.{◌≤◌, ◌<◌}
-use native.Mathlib.Omega.{arith}
-use borrow.Author.Tests.{le-leb, lt-leb}
+use Rattle.std.proofs.Common.{arith}
+use Rattle.std.proofs.lemmas.Bool.Decides.{nat_tests}
 use Rattle.tracing.specs.Scans.{ends_at}
 use Rattle.tracing.proofs.ends_at.Goals as goal
 
-pub returns-then-column-lt3 : goal.returns-then-column-lt3
+pub returns-then-column-ge3 : goal.returns-then-column-ge3
 unfolding ends_at
-returns-then-column-lt3 c = let low : c.args.column < 3 = omega arith in rw (lt-leb _ _ low)
+returns-then-column-ge3 c = grind (arith, nat_tests)
 
-pub returns : goal.returns
+pub returns-else-column-ge3 : goal.returns-else-column-ge3
 unfolding ends_at
-returns c = let high : 3 ≤ c.args.column = omega arith in rw (le-leb _ _ high)
+returns-else-column-ge3 c = grind (arith, nat_tests)

@@ -4,11 +4,11 @@ use native.Mathlib.Omega.{arith}
 use Rattle.tracing.proofs.Digits.{hex-low, hex-high, bit-right}
 use Rattle.tracing.proofs.is_hex.Goals as goal
 
-pub returns-then-byte-lt48 : goal.returns-then-byte-lt48
-returns-then-byte-lt48 c = sym (hex-low _ c.if-byte-lt48.true)
+pub returns-in-48-to-102 : goal.returns-in-48-to-102
+returns-in-48-to-102 c = bit-right c.args.byte (omega arith) (omega arith)
 
-pub returns-then-byte-gt102 : goal.returns-then-byte-gt102
-returns-then-byte-gt102 c = sym (hex-high _ c.if-byte-gt102.true)
+pub returns-in_default : goal.returns-in_default
+returns-in_default c = sym (hex-low _ (omega arith))
 
-pub returns : goal.returns
-returns c = bit-right c.args.byte (omega arith) (omega arith)
+pub returns-in_default-2 : goal.returns-in_default-2
+returns-in_default-2 c = sym (hex-high _ (omega arith))

@@ -1,8 +1,5 @@
 -- `tracing::put_blocks` meets its contract. The loop's invariant: the first `i` blocks are appended.
-use Prim.Native.Nat.{◌-◌, ◌≤◌}
-use mathlib.Core.Path.{◌≡◌}
 use mathlib.Core.List.{map}
-use lib.ListN.{length}
 use Rattle.taskfile.specs.File.{collect, basic_bytes}
 use Rattle.writer.specs.Writing.{Appended}
 use Rattle.tracing.specs.Traces.{traced_block, group_at}
@@ -10,8 +7,4 @@ use Rattle.tracing.proofs.put_blocks.Given as goal
 
 abbrev pub invariant-loop-i : goal.invariant-loop-i
 invariant-loop-i l =
-    (l.i ≤ l.blocks) × (length l.out ≡ length l.initial.out) ×
     Appended 0 (map basic_bytes (collect (λ i. traced_block l.settings (group_at l.settings.group l.addresses i)) 0 l.i)) l.initial.out l.out
-
-abbrev pub decreases-loop-i : goal.decreases-loop-i
-decreases-loop-i l = l.blocks - l.i

@@ -1,15 +1,15 @@
--- `tracing::Scan::begin` meets its contract: where the line begins with a label and a space, both are right.
-use mathlib.Core.Path.{sym, ap, ◌∙◌}
+-- `tracing::Scan::begin` meets its contract: it goes ahead over a label and its space, or stays.
+use mathlib.Core.Path.{sym, ◌∙◌}
 use native.Mathlib.Omega.{arith}
-use Rattle.tracing.specs.declared.Scan.{Scan}
+use Prim.Native.Nat.{◌-◌}
+use lib.ListN.{length, drop, length-drop}
+use lib.Seq.{take_all}
 use Rattle.tracing.proofs.Going.{line-begun}
 use Rattle.tracing.proofs.Scan.begin.Goals as goal
 
-pub go_on-requires : goal.go_on-requires
-go_on-requires c = omega (arith, ap (λ (s : Scan). s.column) c.go_on-label.ensures)
-
-pub returns : goal.returns
-returns c =
-    let args = c.args in
-    line-begun args.piece.now args.self args.at c.go_on-label.result c.go_on.result (omega arith) c.if-self-ne0.false
-    (sym c.is_label.ensures ∙ c.if-not-is_label.false) c.if-piece-at-ne32.false c.go_on-label.ensures c.go_on.ensures
+pub returns-then-rest-eq32 : goal.returns-then-rest-eq32
+returns-then-rest-eq32 c =
+    let s = c.args.self.now in
+    let rest = c.args.rest.now in
+    rw (take_all (length rest - 2) (drop 2 rest) (rw length-drop (omega arith)))
+    (line-begun s rest c.if-self-eq0.true c.if-rest-ge2.true (sym c.is_label.ensures ∙ c.if-is_label.true) c.if-rest-eq32.true)

@@ -1,45 +1,25 @@
 -- `tracing::Scan::over` meets its contract. The loop's invariant: the bytes that are left, scanned on, come to what all bytes come to.
-use Prim.Native.Nat.{◌<◌}
-use mathlib.Core.Path.{refl, ◌∙◌}
-use native.Mathlib.Omega.{arith}
-use lib.ListN.{length, drop_of_length-le}
-use borrow.Author.Rules.{rules}
+use mathlib.Core.Path.{sym, ◌∙◌}
 use Rattle.tracing.specs.Scans.{scanned, kept}
-use Rattle.tracing.proofs.Turns.{scanned-turn, kept-turn}
+use Rattle.tracing.proofs.Turns.{scanned-none, kept_none}
 use Rattle.tracing.proofs.Scan.over.Goals as goal
 
-pub loop-i-init : goal.loop-i-init
-loop-i-init c = (search rules, refl, refl, refl)
-
-pub returns-then-piece-at : goal.returns-then-piece-at
+pub loop-byte-preserved : goal.loop-byte-preserved
 unfolding scanned kept
-returns-then-piece-at c =
-    let ahead = c.read_line-ahead.ensures in
-    let loop = c.loop-i in
-    let none = drop_of_length-le c.args.piece.now c.if-piece-at.true in
-    record { value = rw none at (ahead.same ∙ loop.invariant.2); addresses_after = rw none at (ahead.keeps loop.addresses ∙ loop.invariant.3) }
+loop-byte-preserved c =
+    let loop = c.loop-byte in
+    let first = c.in-Some.ensures.cases.0 in
+    let ahead = c.read_line.ensures in
+    let same = rw first at ahead.same in
+    let keeps = rw first at (ahead.keeps loop.addresses) in
+    (rw c.step.ensures (same ∙ loop.invariant.0), rw (c.step.ensures, c.keep.ensures) (keeps ∙ loop.invariant.1))
 
-pub loop-i-smaller : goal.loop-i-smaller
-loop-i-smaller c = let ahead = c.read_line-ahead.ensures in omega (arith, ahead.later)
+pub returns-clause-value : goal.returns-clause-value
+returns-clause-value c =
+    let ahead = c.read_line.ensures in
+    sym (scanned-none c.read_line.new.self _ c.in_default.ensures.cases) ∙ ahead.same ∙ c.loop-byte.invariant.0
 
-pub loop-i-preserved : goal.loop-i-preserved
-loop-i-preserved c =
-    let stored = c.keep in
-    let line = c.read_line-ahead in
-    let read = c.read_line-ahead.result.scan in
-    let loop = c.loop-i in
-    let piece = c.args.piece.now in
-    let inside : line.result.at < length piece = omega arith in (
-      search rules,
-      search rules,
-      scanned-turn piece line.result.at inside read c.step-scan.result c.step-scan.ensures ∙ line.ensures.same ∙ loop.invariant.2,
-      kept-turn piece line.result.at inside read c.step-scan.result c.step-scan.ensures loop.addresses stored.new.addresses stored.ensures ∙
-          line.ensures.keeps loop.addresses ∙ loop.invariant.3,
-    )
-
-pub returns : goal.returns
-unfolding scanned kept
-returns c =
-    let loop = c.loop-i in
-    let none = drop_of_length-le c.args.piece.now c.loop-i-test.false in
-    record { value = rw none at loop.invariant.2; addresses_after = rw none at loop.invariant.3 }
+pub returns-clause-addresses_after : goal.returns-clause-addresses_after
+returns-clause-addresses_after c =
+    let ahead = c.read_line.ensures in
+    sym (kept_none c.read_line.new.self _ c.loop-byte.addresses c.in_default.ensures.cases) ∙ ahead.keeps c.loop-byte.addresses ∙ c.loop-byte.invariant.1

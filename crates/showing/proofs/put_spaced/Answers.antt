@@ -1,9 +1,0 @@
--- `showing::put_spaced` meets its contract: the space, and then the digits.
-use mathlib.Core.Path.{refl}
-use mathlib.Core.List.{[], ◌∷◌}
-use Rattle.showing.specs.Text.{space}
-use Rattle.showing.proofs.Laws.{all_left, next, put_next, put_last}
-use Rattle.showing.proofs.put_spaced.Goals as goal
-
-pub returns : goal.returns
-returns c = put_last (put_next (next (space ∷ []) _ refl (all_left _ _ _)) c.put_byte-next.ensures) c.put_number.ensures

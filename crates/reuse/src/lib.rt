@@ -50,15 +50,15 @@ fn search_from(file: &[u8], cache: Geometry, k: usize, c: usize) -> Search
 {
     let blocks = taskfile::block_count(file);
     let mut looked = 0;
-    let mut i = k;
-    while i < blocks {
+    for i in k..blocks {
         let found = search_block(file, cache, i + 1, c);
-        let next = found.next;
         looked += found.looked;
-        let None = next else {
-            return Search { next, looked };
-        };
-        i += 1;
+        if let Some(number) = found.next {
+            return Search {
+                next: Some(number),
+                looked,
+            };
+        }
     }
     Search {
         next: None,
@@ -66,8 +66,7 @@ fn search_from(file: &[u8], cache: Geometry, k: usize, c: usize) -> Search
     }
 }
 
-// The first read of line c in block k of the file. Each turn looks at two reads, which halves the
-// turns.
+// The first read of line c in block k of the file.
 fn search_block(file: &[u8], cache: Geometry, k: usize, c: usize) -> Search
     requires accepted { IsAccepted file.now × (1 ≤ k) × (k ≤ (counts file.now).blocks + (counts file.now).preempters) }
     requires geometry_of { GeometryOf (task_of file.now) cache }
@@ -75,33 +74,13 @@ fn search_block(file: &[u8], cache: Geometry, k: usize, c: usize) -> Search
     ensures looked_value { (result.looked ≡ looked_at (on_line (task_of file.now) c) (entry_reads file.now k)) × (result.looked ≤ 124) }
 {
     let reads = taskfile::read_count(file, k);
-    let mut left = reads;
-    while 1 < left {
-        let at = reads - left;
-        let number = taskfile::read(file, k, at);
+    for j in 0..reads {
+        let number = taskfile::read(file, k, j);
         if cache.lies_on(number, c) {
-            let looked = at + 1;
+            let looked = j + 1;
             return Search {
                 next: Some(number),
                 looked,
-            };
-        }
-        let second = taskfile::read(file, k, at + 1);
-        if cache.lies_on(second, c) {
-            let looked = at + 2;
-            return Search {
-                next: Some(second),
-                looked,
-            };
-        }
-        left -= 2;
-    }
-    if 0 < left {
-        let last = taskfile::read(file, k, reads - 1);
-        if cache.lies_on(last, c) {
-            return Search {
-                next: Some(last),
-                looked: reads,
             };
         }
     }
@@ -125,8 +104,7 @@ pub fn useful_lines(file: &[u8], k: usize) -> LineSet
     let mut readers = [0u8; 512];
     let mut lines = LineSet::empty();
     let mut b = k;
-    let mut c = 0;
-    while c < count {
+    for c in 0..count {
         let line = held[c];
         b = note_for(&mut readers, file, cache, b, c, line);
         lines = with_marked(
@@ -134,7 +112,6 @@ pub fn useful_lines(file: &[u8], k: usize) -> LineSet
             c,
             is_reread(file, cache, edge_before(readers[c], blocks), c, line),
         );
-        c += 1;
     }
     lines
 }
@@ -167,12 +144,13 @@ fn note_until(readers: &mut [u8; 512], file: &[u8], cache: Geometry, b: usize, c
     ensures settled { Settled (task_of file.now) result readers.new c }
 {
     let blocks = taskfile::block_count(file);
-    let mut i = b;
-    while (i < blocks) & (readers[c] == 0) {
-        i += 1;
-        note_block(readers, file, cache, i);
+    for i in b..blocks {
+        if readers[c] != 0 {
+            return i;
+        }
+        note_block(readers, file, cache, i + 1);
     }
-    i
+    blocks
 }
 
 // Notes block k of the file as the first reader of the lines that it reads and that have none.
@@ -184,11 +162,9 @@ fn note_block(readers: &mut [u8; 512], file: &[u8], cache: Geometry, k: usize)
     ensures first_by { FirstBy (λ d. any_read (on_line (task_of file.now) d) (entry_reads file.now k)) k readers.old readers.new }
 {
     let reads = taskfile::read_count(file, k);
-    let mut j = 0;
-    while j < reads {
+    for j in 0..reads {
         let mapping = cache.line_of(taskfile::read(file, k, j));
         note_reader(readers, mapping, k as u8);
-        j += 1;
     }
 }
 
@@ -250,9 +226,7 @@ fn first_lines(
     ensures { Noted (task_of file.now) (reads_of (take (b - a) (drop a (task_of file.now).blocks))) read.old first.old read.new first.new (members result) }
 {
     let mut lines = LineSet::empty();
-    let mut k = a;
-    while k < b {
-        k += 1;
+    for k in a + 1..b + 1 {
         lines = lines.union(first_lines_in(read, first, file, cache, k));
     }
     lines
@@ -273,11 +247,9 @@ fn first_lines_in(
 {
     let reads = taskfile::read_count(file, k);
     let mut lines = LineSet::empty();
-    let mut j = 0;
-    while j < reads {
+    for j in 0..reads {
         let number = taskfile::read(file, k, j);
         lines = note(read, first, lines, cache.line_of(number), number);
-        j += 1;
     }
     lines
 }
@@ -315,11 +287,9 @@ fn reread_lines(held: [Line; 512], read: &[bool; 512], first: &[u32; 512], count
     ensures { (c : ℕ) → members result c ≡ (ltb c count && same_block (get_or held c Line.Empty) (first_in read.now first.now c)) }
 {
     let mut lines = LineSet::empty();
-    let mut c = 0;
-    while c < count {
+    for c in 0..count {
         let line = held[c];
         lines = with_marked(lines, c, read[c] & holds(line, first[c]));
-        c += 1;
     }
     lines
 }
@@ -330,12 +300,10 @@ fn held_after(file: &[u8], cache: Geometry, k: usize) -> [Line; 512]
     ensures { HeldAfter (task_of file.now) k result }
 {
     let mut held = [Line::Empty; 512];
-    let mut i = 0;
-    while i < k {
+    for i in 0..k {
         let b = i + 1;
         let reads = taskfile::read_count(file, b);
-        let mut j = 0;
-        while j < reads {
+        for j in 0..reads {
             let number = taskfile::read(file, b, j);
             match cache.line_of(number) {
                 None => {}
@@ -343,9 +311,7 @@ fn held_after(file: &[u8], cache: Geometry, k: usize) -> [Line; 512]
                     held[c] = Line::Held(number);
                 }
             }
-            j += 1;
-        }
-        i += 1;
+            }
     }
     held
 }
@@ -404,10 +370,8 @@ pub fn mark_evicted(marks: &mut [bool; 512], file: &[u8], cache: Geometry)
 {
     let first = taskfile::block_count(file) + 1;
     let end = first + taskfile::preempter_count(file);
-    let mut k = first;
-    while k < end {
+    for k in first..end {
         mark_reads(marks, file, cache, k);
-        k += 1;
     }
 }
 
@@ -421,8 +385,7 @@ fn mark_reads(marks: &mut [bool; 512], file: &[u8], cache: Geometry, k: usize)
 {
     let whole = cache.caches_all();
     let reads = taskfile::read_count(file, k);
-    let mut j = 0;
-    while j < reads {
+    for j in 0..reads {
         let slot = cache.slot_of(taskfile::read(file, k, j));
         let c = slot.line;
         if whole {
@@ -430,7 +393,6 @@ fn mark_reads(marks: &mut [bool; 512], file: &[u8], cache: Geometry, k: usize)
         } else {
             marks[c] = marks[c] | slot.cached;
         }
-        j += 1;
     }
 }
 
@@ -441,9 +403,7 @@ pub fn mark_first(marks: &mut [u8; 512], file: &[u8], cache: Geometry)
     ensures { FirstMarks (task_of file.now) marks.new }
 {
     let start = taskfile::block_count(file) + 1;
-    let mut i = taskfile::preempter_count(file);
-    while 0 < i {
-        i -= 1;
+    for i in (0..taskfile::preempter_count(file)).rev() {
         mark_reads_by(marks, file, cache, start + i, i as u8);
     }
 }
@@ -457,12 +417,10 @@ fn mark_reads_by(marks: &mut [u8; 512], file: &[u8], cache: Geometry, k: usize, 
     ensures marked_by { MarkedBy (λ d. any_read (on_line (task_of file.now) d) (entry_reads file.now k)) by marks.old marks.new }
 {
     let reads = taskfile::read_count(file, k);
-    let mut j = 0;
-    while j < reads {
+    for j in 0..reads {
         let slot = cache.slot_of(taskfile::read(file, k, j));
         let c = slot.line;
         marks[c] = if_cached(slot.cached, by, marks[c]);
-        j += 1;
     }
 }
 
@@ -472,10 +430,8 @@ fn marked_lines(marks: &[bool; 512], count: usize) -> LineSet
     ensures { (d : ℕ) → members result d ≡ (ltb d count && get_or marks.now d false) }
 {
     let mut set = LineSet::empty();
-    let mut c = 0;
-    while c < count {
+    for c in 0..count {
         set = with_marked(set, c, marks[c]);
-        c += 1;
     }
     set
 }
@@ -513,12 +469,10 @@ fn count_rereads(file: &[u8], cache: Geometry, evicted: &[bool; 512], counts: &m
     let whole = cache.caches_all();
     let mut held = [Line::Empty; 512];
     let mut since = [0u8; 512];
-    let mut i = 0;
-    while i < blocks {
+    for i in 0..blocks {
         let b = i + 1;
         let reads = taskfile::read_count(file, b);
-        let mut j = 0;
-        while j < reads {
+        for j in 0..reads {
             let number = taskfile::read(file, b, j);
             let slot = cache.slot_of(number);
             let c = slot.line;
@@ -532,9 +486,7 @@ fn count_rereads(file: &[u8], cache: Geometry, evicted: &[bool; 512], counts: &m
             } else {
                 held[c] = line_after(line, number, slot.cached);
             }
-            j += 1;
-        }
-        i += 1;
+            }
     }
 }
 
@@ -551,10 +503,8 @@ fn sum_rows(counts: &mut [u8; 4096], rows: usize)
     ensures counts_len { length counts.new ≡ 4096 }
     ensures summed_rows { SummedRows rows counts.old counts.new }
 {
-    let mut i = 0;
-    while i < rows {
+    for i in 0..rows {
         sum_row(counts, i);
-        i += 1;
     }
 }
 
@@ -566,13 +516,11 @@ fn sum_row(counts: &mut [u8; 4096], i: usize)
     ensures others_stay { OthersStay i counts.old counts.new }
 {
     let mut sum = 0u8;
-    let mut a = 0;
-    while a <= i {
+    for a in 0..i + 1 {
         let at = 64 * i + a;
         let here = counts[at];
         counts[at] = sum;
         sum += here;
-        a += 1;
     }
 }
 

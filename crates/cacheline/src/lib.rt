@@ -161,8 +161,7 @@ impl Geometry {
         if self.bypassing == 0 {
             return false;
         }
-        let behind = (number as u64 + 4294967296 - self.first as u64) % 4294967296;
-        behind < self.bypassing as u64
+        number.wrapping_sub(self.first) < self.bypassing
     }
 
     // A number's remainder by the line count.

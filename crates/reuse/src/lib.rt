@@ -60,10 +60,7 @@ fn search_from(file: &[u8], cache: Geometry, k: usize, c: usize) -> Search
             };
         }
     }
-    Search {
-        next: None,
-        looked,
-    }
+    Search { next: None, looked }
 }
 
 // The first read of line c in block k of the file.
@@ -98,42 +95,22 @@ pub fn useful_lines(file: &[u8], k: usize) -> LineSet
     ensures { (c : ℕ) → members result c ≡ Lines.useful (task_of file.now) k c }
 {
     let cache = cacheline::geometry_of(file);
-    let count = cache.line_count as usize;
     let blocks = taskfile::block_count(file);
     let held = held_after(file, cache, k);
     let mut readers = [0u8; 512];
     let mut lines = LineSet::empty();
     let mut b = k;
-    for c in 0..count {
-        let line = held[c];
-        b = note_for(&mut readers, file, cache, b, c, line);
-        lines = with_marked(
-            lines,
-            c,
-            is_reread(file, cache, edge_before(readers[c], blocks), c, line),
-        );
+    for c in 0..cache.line_count as usize {
+        match held[c] {
+            Line::Empty => {}
+            Line::Held(number) => {
+                b = note_until(&mut readers, file, cache, b, c);
+                let edge = edge_before(readers[c], blocks);
+                lines = with_marked(lines, c, is_next(file, cache, edge, c, number));
+            }
+        }
     }
     lines
-}
-
-// Notes first readers behind block b until line c has one, if the line holds something; answers the last block that was noted.
-fn note_for(
-    readers: &mut [u8; 512],
-    file: &[u8],
-    cache: Geometry,
-    b: usize,
-    c: usize,
-    line: Line,
-) -> usize
-    requires readers_len { (length readers.old ≡ 512) × (c < 512) }
-    requires accepted { IsAccepted file.now × (b ≤ block_count (task_of file.now)) × GeometryOf (task_of file.now) cache }
-    ensures noted_to { NotedTo (task_of file.now) b result readers.old readers.new }
-    ensures fact { (line ≡ Line.Empty) ⊎ Settled (task_of file.now) result readers.new c }
-{
-    match line {
-        Line::Empty => b,
-        Line::Held(_) => note_until(readers, file, cache, b, c),
-    }
 }
 
 // Notes first readers behind block b, block after block, until line c has one or no block is left; answers the last block that was noted.
@@ -174,9 +151,8 @@ fn note_reader(readers: &mut [u8; 512], mapping: Option<usize>, by: u8)
     ensures readers_len { length readers.new ≡ 512 }
     ensures first_by { FirstBy (λ d. is_line d mapping) by readers.old readers.new }
 {
-    match mapping {
-        None => {}
-        Some(c) => readers[c] = first_reader(readers[c], by),
+    if let Some(c) = mapping {
+        readers[c] = first_reader(readers[c], by);
     }
 }
 
@@ -226,8 +202,8 @@ fn first_lines(
     ensures { Noted (task_of file.now) (reads_of (take (b - a) (drop a (task_of file.now).blocks))) read.old first.old read.new first.new (members result) }
 {
     let mut lines = LineSet::empty();
-    for k in a + 1..b + 1 {
-        lines = lines.union(first_lines_in(read, first, file, cache, k));
+    for k in a..b {
+        lines = lines.union(first_lines_in(read, first, file, cache, k + 1));
     }
     lines
 }
@@ -268,17 +244,15 @@ fn note(
     ensures by_index_2 { (c : ℕ) → get_or first.new c 0 ≡ cond (not (get_or read.old c false) && is_line c mapping) number (get_or first.old c 0) }
     ensures by_index_3 { (c : ℕ) → members result c ≡ (members lines c || not (get_or read.old c false) && is_line c mapping) }
 {
-    match mapping {
-        None => lines,
-        Some(c) => {
-            if read[c] {
-                return lines;
-            }
-            read[c] = true;
-            first[c] = number;
-            lines.with(c)
-        }
+    let Some(c) = mapping else {
+        return lines;
+    };
+    if read[c] {
+        return lines;
     }
+    read[c] = true;
+    first[c] = number;
+    lines.with(c)
 }
 
 // The lines below count that hold the number that was read on them first.
@@ -289,7 +263,7 @@ fn reread_lines(held: [Line; 512], read: &[bool; 512], first: &[u32; 512], count
     let mut lines = LineSet::empty();
     for c in 0..count {
         let line = held[c];
-        lines = with_marked(lines, c, read[c] & holds(line, first[c]));
+        lines = with_marked(lines, c, read[c] & (line == Line::Held(first[c])));
     }
     lines
 }
@@ -305,13 +279,10 @@ fn held_after(file: &[u8], cache: Geometry, k: usize) -> [Line; 512]
         let reads = taskfile::read_count(file, b);
         for j in 0..reads {
             let number = taskfile::read(file, b, j);
-            match cache.line_of(number) {
-                None => {}
-                Some(c) => {
-                    held[c] = Line::Held(number);
-                }
+            if let Some(c) = cache.line_of(number) {
+                held[c] = Line::Held(number);
             }
-            }
+        }
     }
     held
 }
@@ -327,28 +298,12 @@ fn edge_before(reader: u8, blocks: usize) -> usize
     }
 }
 
-// Whether the next read of line c after edge k is of the memory block that the line holds.
-fn is_reread(file: &[u8], cache: Geometry, k: usize, c: usize, line: Line) -> bool
-    requires { IsAccepted file.now × (k ≤ block_count (task_of file.now)) × GeometryOf (task_of file.now) cache }
-    ensures { result ≡ same_block line (next_read (task_of file.now) k c) }
-{
-    match line {
-        Line::Empty => false,
-        Line::Held(number) => is_next(file, cache, k, c, number),
-    }
-}
-
 // Whether the next read of line c after edge k is of this memory block.
 fn is_next(file: &[u8], cache: Geometry, k: usize, c: usize, number: u32) -> bool
     requires { IsAccepted file.now × (k ≤ block_count (task_of file.now)) × GeometryOf (task_of file.now) cache }
     ensures { result ≡ same_block (Line.Held number) (next_read (task_of file.now) k c) }
 {
-    let found = search_from(file, cache, k, c);
-    let next = found.next;
-    match next {
-        None => false,
-        Some(m) => number == m,
-    }
+    search_from(file, cache, k, c).next == Some(number)
 }
 
 // H: the lines that the preempters evict. They are marked first, and each is then added to the set once.
@@ -484,9 +439,9 @@ fn count_rereads(file: &[u8], cache: Geometry, evicted: &[bool; 512], counts: &m
             if whole {
                 held[c] = Line::Held(number);
             } else {
-                held[c] = line_after(line, number, slot.cached);
+                held[c] = if_cached(slot.cached, Line::Held(number), line);
             }
-            }
+        }
     }
 }
 
@@ -494,7 +449,7 @@ fn count_rereads(file: &[u8], cache: Geometry, evicted: &[bool; 512], counts: &m
 fn reread(line: Line, number: u32, evicted: bool) -> u8
     ensures { (result ≡ bit (evicted && same_block line (Line.Held number))) × (result ≤ 1) }
 {
-    (evicted & holds(line, number)) as u8
+    (evicted & (line == Line::Held(number))) as u8
 }
 
 // Puts at each column of a row, up to the row's own number, the sum of those before it.
@@ -524,26 +479,9 @@ fn sum_row(counts: &mut [u8; 4096], i: usize)
     }
 }
 
-// What a line holds after a read of a number whose slot is there: the number, if it is cached.
-pub fn line_after(line: Line, number: u32, cached: bool) -> Line
-    ensures { result ≡ cond cached (Line.Held number) line }
-{
-    if cached { Line::Held(number) } else { line }
-}
-
-// The new entry of a line after such a read, if the number is cached, and otherwise the old one.
-pub fn if_cached(cached: bool, new: u8, old: u8) -> u8
+// The new entry of a line after a read, if the number is cached, and otherwise the old one.
+pub fn if_cached<T: Copy>(cached: bool, new: T, old: T) -> T
     ensures { result ≡ cond cached new old }
 {
     if cached { new } else { old }
-}
-
-// Whether a line holds this memory block.
-pub fn holds(line: Line, number: u32) -> bool
-    ensures { result ≡ same_block line (Line.Held number) }
-{
-    match line {
-        Line::Empty => false,
-        Line::Held(m) => m == number,
-    }
 }

@@ -31,7 +31,7 @@ marked_more t xs marks₀ marks j m line on v hj em at low is k = (
 
 pub loop-j-init : goal.loop-j-init
 unfolding any_read
-loop-j-init c = (omega arith, (c.requires.marks_len, λ d h. sym (or-false _)))
+loop-j-init c = (c.requires.marks_len, λ d h. sym (or-false _))
 
 pub bounds-marks-c : goal.bounds-marks-c
 bounds-marks-c c = omega (arith, c.slot_of-slot.ensures.1)
@@ -51,22 +51,20 @@ loop-j-preserved c =
     let of = slot.ensures.0 t c.requires.geometry_of in
     let number = c.read in
     let more = marked_more t (entry_reads c.args.file.now c.args.k) c.args.marks.now l.marks l.j number.result slot.result.line
-    slot.result.cached in (
-      omega arith,
+    slot.result.cached in
       elim c.if-whole.branch [
         | then-whole w ↦
             let on = all-cached t number.result slot.result of (sym (whole.ensures t c.requires.geometry_of) ∙ w.if-whole.true) in
-            rw w.marks-is (more true (omega arith) number.ensures of.lies slot.ensures.1 (sym (rw (on, or-true) refl)) l.invariant.1)
-        | else-whole w ↦ rw w.marks-is (more _ (omega arith) number.ensures of.lies slot.ensures.1 refl l.invariant.1)
-      ],
-    )
+            rw w.marks-is (more true (omega arith) number.ensures of.lies slot.ensures.1 (sym (rw (on, or-true) refl)) l.invariant)
+        | else-whole w ↦ rw w.marks-is (more _ (omega arith) number.ensures of.lies slot.ensures.1 refl l.invariant)
+      ]
 
 pub returns : goal.returns
 returns c =
     let l = c.loop-j in record {
-      marks_len_2 = l.invariant.1.0;
+      marks_len_2 = l.invariant.0;
       marked_too = λ d h.
-          l.invariant.1.1 d h ∙
+          l.invariant.1 d h ∙
           ap (λ (xs : List ℕ). get_or c.args.marks.now d false || any_read (on_line (task_of c.args.file.now) d) xs)
           (take_all l.j (entry_reads c.args.file.now c.args.k) (omega arith));
     }

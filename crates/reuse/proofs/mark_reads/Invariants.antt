@@ -16,7 +16,4 @@ abbrev pub Marked : Task → List ℕ → List Bool → ℕ → List Bool → Ty
 Marked t xs marks₀ j marks = (length marks ≡ 512) × MarkedToo (λ d. any_read (on_line t d) (take j xs)) marks₀ marks
 
 abbrev pub invariant-loop-j : goal.invariant-loop-j
-invariant-loop-j l = (l.j ≤ l.reads) × Marked (task_of l.file) (entry_reads l.file l.k) l.initial.marks l.j l.marks
-
-abbrev pub decreases-loop-j : goal.decreases-loop-j
-decreases-loop-j l = l.reads - l.j
+invariant-loop-j l = Marked (task_of l.file) (entry_reads l.file l.k) l.initial.marks l.j l.marks

@@ -33,7 +33,7 @@ marked_more t xs n marks₀ marks j m line on v hj em at low is k = (
 
 pub loop-j-init : goal.loop-j-init
 unfolding any_read
-loop-j-init c = (omega arith, (c.requires.marks_len, λ d h. refl))
+loop-j-init c = (c.requires.marks_len, λ d h. refl)
 
 pub bounds-marks-c : goal.bounds-marks-c
 bounds-marks-c c = omega (arith, c.slot_of-slot.ensures.1)
@@ -45,19 +45,17 @@ pub loop-j-preserved : goal.loop-j-preserved
 loop-j-preserved c =
     let l = c.loop-j in
     let slot = c.slot_of-slot in
-    let number = c.read in (
-      omega arith,
+    let number = c.read in
       marked_more (task_of c.args.file.now) (entry_reads c.args.file.now c.args.k) c.args.by c.args.marks.now l.marks l.j number.result
           slot.result.line slot.result.cached _ (omega arith) number.ensures (slot.ensures.0 (task_of c.args.file.now) c.requires.geometry_of).lies slot.ensures.1
-          c.if_cached.ensures l.invariant.1,
-    )
+          c.if_cached.ensures l.invariant
 
 pub returns : goal.returns
 returns c =
     let l = c.loop-j in record {
-      marks_len_2 = l.invariant.1.0;
+      marks_len_2 = l.invariant.0;
       marked_by = λ d h.
-          l.invariant.1.1 d h ∙
+          l.invariant.1 d h ∙
           ap (λ (xs : List ℕ). cond (any_read (on_line (task_of c.args.file.now) d) xs) c.args.by (get_or c.args.marks.now d 0))
           (take_all l.j (entry_reads c.args.file.now c.args.k) (omega arith));
     }

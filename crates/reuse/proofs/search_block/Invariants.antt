@@ -1,19 +1,10 @@
 -- `reuse::search_block` meets its contract. The loop's invariant: none of the reads passed lies on
--- the line. The last read of an odd number of reads comes after the loop.
-use Prim.Native.Nat.{ℕ, ◌-◌, ◌≤◌}
-use mathlib.Core.List.{List}
+-- the line.
 use lib.ListN.{drop}
 use Rattle.model.specs.Lines.{on_line}
 use Rattle.taskfile.specs.File.{task_of, entry_reads}
 use Rattle.reuse.proofs.Looked.{Left}
 use Rattle.reuse.proofs.search_block.Given as goal
 
--- none of the first n reads of block k lies on line c
-abbrev pub Passed : List ℕ → ℕ → ℕ → ℕ → Type 0
-Passed file k c n = Left (on_line (task_of file) c) (entry_reads file k) n (drop n (entry_reads file k))
-
-abbrev pub invariant-loop-left : goal.invariant-loop-left
-invariant-loop-left l = (l.left ≤ l.reads) × Passed l.file l.k l.c (l.reads - l.left)
-
-abbrev pub decreases-loop-left : goal.decreases-loop-left
-decreases-loop-left l = l.left
+abbrev pub invariant-loop-j : goal.invariant-loop-j
+invariant-loop-j l = Left (on_line (task_of l.file) l.c) (entry_reads l.file l.k) l.j (drop l.j (entry_reads l.file l.k))

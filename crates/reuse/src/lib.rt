@@ -63,7 +63,8 @@ fn search_from(file: &[u8], cache: Geometry, k: usize, c: usize) -> Search
     Search { next: None, looked }
 }
 
-// The first read of line c in block k of the file.
+// The first read of line c in block k of the file. Each turn looks at two reads: with one a search took up to
+// 1.4 of the time.
 fn search_block(file: &[u8], cache: Geometry, k: usize, c: usize) -> Search
     requires accepted { IsAccepted file.now × (1 ≤ k) × (k ≤ (counts file.now).blocks + (counts file.now).preempters) }
     requires geometry_of { GeometryOf (task_of file.now) cache }
@@ -71,13 +72,31 @@ fn search_block(file: &[u8], cache: Geometry, k: usize, c: usize) -> Search
     ensures looked_value { (result.looked ≡ looked_at (on_line (task_of file.now) c) (entry_reads file.now k)) × (result.looked ≤ 124) }
 {
     let reads = taskfile::read_count(file, k);
-    for j in 0..reads {
-        let number = taskfile::read(file, k, j);
+    for i in 0..reads / 2 {
+        let at = 2 * i;
+        let number = taskfile::read(file, k, at);
         if cache.lies_on(number, c) {
-            let looked = j + 1;
+            let looked = at + 1;
             return Search {
                 next: Some(number),
                 looked,
+            };
+        }
+        let second = taskfile::read(file, k, at + 1);
+        if cache.lies_on(second, c) {
+            let looked = at + 2;
+            return Search {
+                next: Some(second),
+                looked,
+            };
+        }
+    }
+    if reads % 2 == 1 {
+        let last = taskfile::read(file, k, reads - 1);
+        if cache.lies_on(last, c) {
+            return Search {
+                next: Some(last),
+                looked: reads,
             };
         }
     }

@@ -12,7 +12,7 @@ ghost use Rattle.lineset.specs.Members.{members};
 ghost use Rattle.taskfile.specs.File.{IsAccepted, counts, task_of, entry_reads};
 ghost use Rattle.cacheline.specs.Geometries.{GeometryOf, WithinCache};
 ghost use Rattle.reuse.specs.Counts.{NewLines, Rereads, row_sum, SummedRow, SummedRows, OthersStay};
-ghost use Rattle.reuse.specs.States.{HeldAfter, MarkedToo, MarkedBy, FirstMarks, edge_before, FirstBy, NotedTo, Settled};
+ghost use Rattle.reuse.specs.States.{HeldAfter, MarkedBy, FirstMarks, edge_before, FirstBy, NotedTo, Settled};
 ghost use Rattle.reuse.specs.FirstReads.{first_in, Noted};
 
 use cacheline::Geometry;
@@ -63,8 +63,8 @@ fn search_from(file: &[u8], cache: Geometry, k: usize, c: usize) -> Search
     Search { next: None, looked }
 }
 
-// The first read of line c in block k of the file. Each turn looks at two reads: with one a search took up to
-// 1.4 of the time.
+// The first read of line c in block k of the file. Each turn looks at two reads: with one a search took 1.1 to 1.3
+// of the time.
 fn search_block(file: &[u8], cache: Geometry, k: usize, c: usize) -> Search
     requires accepted { IsAccepted file.now × (1 ≤ k) × (k ≤ (counts file.now).blocks + (counts file.now).preempters) }
     requires geometry_of { GeometryOf (task_of file.now) cache }
@@ -345,17 +345,17 @@ pub fn mark_evicted(marks: &mut [bool; 512], file: &[u8], cache: Geometry)
     let first = taskfile::block_count(file) + 1;
     let end = first + taskfile::preempter_count(file);
     for k in first..end {
-        mark_reads(marks, file, cache, k);
+        mark_reads(marks, file, cache, k, true);
     }
 }
 
-// Marks the lines that block k of the file reads.
-fn mark_reads(marks: &mut [bool; 512], file: &[u8], cache: Geometry, k: usize)
+// Marks the lines that block k of the file reads with this mark.
+fn mark_reads<T: Copy>(marks: &mut [T; 512], file: &[u8], cache: Geometry, k: usize, mark: T)
     requires marks_len { length marks.old ≡ 512 }
     requires accepted { IsAccepted file.now × (1 ≤ k) × (k ≤ (counts file.now).blocks + (counts file.now).preempters) }
     requires geometry_of { GeometryOf (task_of file.now) cache }
     ensures marks_len_2 { length marks.new ≡ 512 }
-    ensures marked_too { MarkedToo (λ d. any_read (on_line (task_of file.now) d) (entry_reads file.now k)) marks.old marks.new }
+    ensures marked_by { MarkedBy (λ d. any_read (on_line (task_of file.now) d) (entry_reads file.now k)) mark marks.old marks.new }
 {
     let whole = cache.caches_all();
     let reads = taskfile::read_count(file, k);
@@ -363,9 +363,9 @@ fn mark_reads(marks: &mut [bool; 512], file: &[u8], cache: Geometry, k: usize)
         let slot = cache.slot_of(taskfile::read(file, k, j));
         let c = slot.line;
         if whole {
-            marks[c] = true;
+            marks[c] = mark;
         } else {
-            marks[c] = marks[c] | slot.cached;
+            marks[c] = if_cached(slot.cached, mark, marks[c]);
         }
     }
 }
@@ -378,23 +378,7 @@ pub fn mark_first(marks: &mut [u8; 512], file: &[u8], cache: Geometry)
 {
     let start = taskfile::block_count(file) + 1;
     for i in (0..taskfile::preempter_count(file)).rev() {
-        mark_reads_by(marks, file, cache, start + i, i as u8);
-    }
-}
-
-// Marks the lines that block k of the file reads with this number.
-fn mark_reads_by(marks: &mut [u8; 512], file: &[u8], cache: Geometry, k: usize, by: u8)
-    requires marks_len { length marks.old ≡ 512 }
-    requires accepted { IsAccepted file.now × (1 ≤ k) × (k ≤ (counts file.now).blocks + (counts file.now).preempters) }
-    requires geometry_of { GeometryOf (task_of file.now) cache }
-    ensures marks_len_2 { length marks.new ≡ 512 }
-    ensures marked_by { MarkedBy (λ d. any_read (on_line (task_of file.now) d) (entry_reads file.now k)) by marks.old marks.new }
-{
-    let reads = taskfile::read_count(file, k);
-    for j in 0..reads {
-        let slot = cache.slot_of(taskfile::read(file, k, j));
-        let c = slot.line;
-        marks[c] = if_cached(slot.cached, by, marks[c]);
+        mark_reads(marks, file, cache, start + i, i as u8);
     }
 }
 

@@ -11,6 +11,7 @@ use Rattle.model.proofs.LineStates.{any_append, evicted-beyond}
 use Rattle.taskfile.specs.File.{counts, task_of, entry_reads}
 use Rattle.taskfile.proofs.Accepted.{reads_between, between_more, preempter-reads}
 use Rattle.taskfile.proofs.Accepted as accepted-file
+use Rattle.reuse.proofs.Marks.{marked-true}
 use Rattle.reuse.proofs.mark_evicted.Goals as goal
 
 pub loop-k-init : goal.loop-k-init
@@ -21,15 +22,13 @@ loop-k-init c =
 
 pub mark_reads-requires : goal.mark_reads-requires
 mark_reads-requires c =
-    record {
-      marks_len = c.loop-k.invariant.0;
-      accepted = (
-        c.requires.1,
-        omega arith,
-        omega (arith, accepted-file.block-count c.args.file.now, accepted-file.preempter-count c.args.file.now),
-      );
-      geometry_of = c.requires.2;
-    }
+    let file = c.args.file.now in (
+      omega arith,
+      (
+        c.loop-k.invariant.0,
+        ((c.requires.1, omega arith, omega (arith, accepted-file.block-count file, accepted-file.preempter-count file)), c.requires.2),
+      ),
+    )
 
 pub loop-k-preserved : goal.loop-k-preserved
 loop-k-preserved c =
@@ -40,7 +39,7 @@ loop-k-preserved c =
     let there : first + (l.k - first) ≡ l.k = omega arith in (
       c.mark_reads.ensures.marks_len_2,
       λ d h.
-          c.mark_reads.ensures.marked_too d h ∙ ap (λ (x : Bool). x || any_read (on_line (task_of file) d) (entry_reads file l.k)) (l.invariant.1 d h) ∙
+          marked-true l.marks c.mark_reads.new.marks d _ (omega (arith, l.invariant.0)) (omega (arith, c.mark_reads.ensures.marks_len_2)) (c.mark_reads.ensures.marked_by d h) ∙ ap (λ (x : Bool). x || any_read (on_line (task_of file) d) (entry_reads file l.k)) (l.invariant.1 d h) ∙
           sym (rw (more, between_more file first (l.k - first), any_append, there) refl),
     )
 

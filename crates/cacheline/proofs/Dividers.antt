@@ -106,9 +106,3 @@ module _ (s : ℕ) (d : Divider) (of : Divides s d) (m : ℕ) (small : m < 2 ^ 3
   pub rest-is : m - (m * d.factor + d.addend) / 2 ^ d.shift * s ≡ m % s
   rest-is = rw (of.exact m small) (omega (arith, div-add-mod' m s))
 
--- a count whose multiple by 2 ^ 32 is the power is one itself
-pub masks-power : (s : ℕ) (p : Power) → PowerFor s p → p.value ≡ s * 2 ^ 32 → (m : ℕ) → bit_and m (s - 1) ≡ m % s
-masks-power s p of is m =
-    let parts : 2 ^ (p.shift - 32) * 2 ^ 32 ≡ 2 ^ p.shift = sym (pow-add 2 (p.shift - 32) 32) ∙ ap (λ (k : ℕ). 2 ^ k) (omega (arith, of.wide)) in
-    let whole : s ≡ 2 ^ (p.shift - 32) = omega (arith, parts, of.value, is) in
-    rw whole (and_mask m (p.shift - 32))

@@ -13,14 +13,14 @@ use Rattle.taskfile.specs.File.{IsAccepted, task_of, counts_in_range, header_in_
 use Rattle.taskfile.proofs.Files.{accepted-within}
 
 pub behind-first : (first count m : ℕ) → first + count ≤ 2 ^ 32 → m < 2 ^ 32
-    → ltb ((m + 4294967296 - first) % 4294967296) count ≡ (leb first m && ltb m (first + count))
+    → ltb ((m + (4294967296 - first)) % 4294967296) count ≡ (leb first m && ltb m (first + count))
 behind-first first count m ends small = go (leb first m) (ltb m (first + count)) refl refl
   where
     go : (from below : Bool) → leb first m ≡ from → ltb m (first + count) ≡ below
-        → ltb ((m + 4294967296 - first) % 4294967296) count ≡ (from && below)
-    go true true f b = lt-ltb ((m + 4294967296 - first) % 4294967296) count (omega (arith, leb-true first m f, ltb-true m (first + count) b))
-    go true false f b = le-ltb ((m + 4294967296 - first) % 4294967296) count (omega (arith, leb-true first m f, ltb-false m (first + count) b))
-    go false below f b = le-ltb ((m + 4294967296 - first) % 4294967296) count (omega (arith, leb-false first m f))
+        → ltb ((m + (4294967296 - first)) % 4294967296) count ≡ (from && below)
+    go true true f b = lt-ltb ((m + (4294967296 - first)) % 4294967296) count (omega (arith, leb-true first m f, ltb-true m (first + count) b))
+    go true false f b = le-ltb ((m + (4294967296 - first)) % 4294967296) count (omega (arith, leb-true first m f, ltb-false m (first + count) b))
+    go false below f b = le-ltb ((m + (4294967296 - first)) % 4294967296) count (omega (arith, leb-false first m f))
 
 pub scratch-ends : (file : List ℕ) → IsAccepted file → (task_of file).header.scratch.first + (task_of file).header.scratch.count ≤ 2 ^ 32
 unfolding header_in_range scratch_in_range

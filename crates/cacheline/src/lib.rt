@@ -28,7 +28,8 @@ pub struct Geometry {
 }
 
 // Where a memory block goes: its remainder by the line count, and whether it is cached there. A
-// memory block of the scratch range is not.
+// memory block of the scratch range is not. This is no Option, for speed: the walks look at the line's
+// entries either way and choose by the flag what they store, without a branch.
 #[derive(Clone, Copy)]
 pub struct Slot {
     pub line: usize,
@@ -47,7 +48,7 @@ pub fn geometry_of(file: &[u8]) -> Geometry
     Geometry {
         line_count,
         divider: divider_by(lines, power),
-        mask: mask_by(line_count, power),
+        mask: mask_by(line_count),
         first: header.scratch.first,
         bypassing: header.scratch.count,
     }
@@ -84,14 +85,15 @@ fn divider_by(lines: u64, power: Power) -> Divider
 }
 
 // The mask of a count of lines that is a power of two.
-fn mask_by(lines: u32, power: Power) -> u32
-    requires { (1 ≤ lines) × PowerFor lines power }
+fn mask_by(lines: u32) -> u32
+    requires { 1 ≤ lines }
     ensures { Masks lines result }
 {
-    if power.value == lines as u64 * 4294967296 {
-        return lines - 1;
+    if lines.is_power_of_two() {
+        lines - 1
+    } else {
+        0
     }
-    0
 }
 
 // A power of two.
@@ -106,14 +108,11 @@ fn power_for(lines: u64) -> Power
     requires { (1 ≤ lines) × (lines ≤ 512) }
     ensures { PowerFor lines result }
 {
-    let most = lines * 4294967296;
-    let mut value = 4294967296;
-    let mut shift = 32;
-    while value * 2 <= most {
-        value *= 2;
-        shift += 1;
+    let shift = 32 + lines.ilog2();
+    Power {
+        value: 1 << shift,
+        shift,
     }
-    Power { value, shift }
 }
 
 impl Geometry {
@@ -129,8 +128,7 @@ impl Geometry {
         }
     }
 
-    // The slot of a memory block. Both fields are computed, so that a walk over the reads chooses
-    // between values and needs no branch.
+    // The slot of a memory block.
     pub fn slot_of(self, number: u32) -> Slot
         requires { Sound self }
         ensures { ((t : Task) → GeometryOf t self → SlotOf t number result) × (result.line < 512) }
@@ -153,10 +151,7 @@ impl Geometry {
         requires { Sound self }
         ensures { (t : Task) → GeometryOf t self → result ≡ on_line t c number }
     {
-        if c == self.remainder(number) {
-            return !self.bypasses(number);
-        }
-        false
+        c == self.remainder(number) && !self.bypasses(number)
     }
 
     // Whether a memory block is in the scratch range: so far behind its first, modulo 2^32.
@@ -166,8 +161,7 @@ impl Geometry {
         if self.bypassing == 0 {
             return false;
         }
-        let behind = (number as u64 + 4294967296 - self.first as u64) % 4294967296;
-        behind < self.bypassing as u64
+        number.wrapping_sub(self.first) < self.bypassing
     }
 
     // A number's remainder by the line count.

@@ -88,8 +88,7 @@ pub fn count_lines(file: &[u8], points: &[u16], lines: &mut [u32; 64])
     let mut since = [0u8; 512];
     let mut region = 0;
     let mut count = 0u32;
-    let mut i = 0;
-    while i < blocks {
+    for i in 0..blocks {
         if edge_after(points, region, blocks) == i {
             region += 1;
             count = 0;
@@ -97,8 +96,7 @@ pub fn count_lines(file: &[u8], points: &[u16], lines: &mut [u32; 64])
         let here = (region + 1) as u8;
         let k = i + 1;
         let reads = taskfile::read_count(file, k);
-        let mut j = 0;
-        while j < reads {
+        for j in 0..reads {
             let number = taskfile::read(file, k, j);
             let slot = cache.slot_of(number);
             let c = slot.line;
@@ -109,12 +107,10 @@ pub fn count_lines(file: &[u8], points: &[u16], lines: &mut [u32; 64])
             if whole {
                 held[c] = Line::Held(number);
             } else {
-                held[c] = reuse::line_after(line, number, slot.cached);
+                held[c] = reuse::if_cached(slot.cached, Line::Held(number), line);
             }
-            j += 1;
         }
         lines[region] = count;
-        i += 1;
     }
 }
 
@@ -133,8 +129,7 @@ fn charge_lines(file: &[u8], points: &[u16], lines: &mut [u32; 64], charges: &mu
     let mut since = [0u8; 512];
     let mut region = 0;
     let mut count = 0u32;
-    let mut i = 0;
-    while i < blocks {
+    for i in 0..blocks {
         if edge_after(points, region, blocks) == i {
             region += 1;
             count = 0;
@@ -142,8 +137,7 @@ fn charge_lines(file: &[u8], points: &[u16], lines: &mut [u32; 64], charges: &mu
         let here = (region + 1) as u8;
         let k = i + 1;
         let reads = taskfile::read_count(file, k);
-        let mut j = 0;
-        while j < reads {
+        for j in 0..reads {
             let number = taskfile::read(file, k, j);
             let slot = cache.slot_of(number);
             let c = slot.line;
@@ -158,12 +152,10 @@ fn charge_lines(file: &[u8], points: &[u16], lines: &mut [u32; 64], charges: &mu
             if whole {
                 held[c] = Line::Held(number);
             } else {
-                held[c] = reuse::line_after(line, number, slot.cached);
+                held[c] = reuse::if_cached(slot.cached, Line::Held(number), line);
             }
-            j += 1;
         }
         lines[region] = count;
-        i += 1;
     }
 }
 
@@ -171,7 +163,7 @@ fn charge_lines(file: &[u8], points: &[u16], lines: &mut [u32; 64], charges: &mu
 fn loads(line: Line, number: u32, evicted: bool, earlier: bool) -> u32
     ensures { (result ≡ bit (evicted && same_block line (Line.Held number) && earlier)) × (result ≤ 1) }
 {
-    (evicted & reuse::holds(line, number) & earlier) as u32
+    (evicted & (line == Line::Held(number)) & earlier) as u32
 }
 
 // The price of a well-formed list, from the lines of its regions.
@@ -183,8 +175,7 @@ fn price_regions(file: &[u8], points: &[u16], lines: &[u32; 64]) -> Result<Price
     let mut total = 0u64;
     let mut cost = 0u64;
     let mut a = 0;
-    let mut i = 0;
-    while i <= points.len() {
+    for i in 0..points.len() + 1 {
         let b = edge_after(points, i, n);
         let region = regions::weigh_between(file, a, b, lines[i]);
         if !region.fits {
@@ -193,7 +184,6 @@ fn price_regions(file: &[u8], points: &[u16], lines: &[u32; 64]) -> Result<Price
         total += lines[i] as u64;
         cost += region.cost;
         a = b;
-        i += 1;
     }
     Ok(Price { lines: total, cost })
 }
@@ -202,9 +192,8 @@ fn price_regions(file: &[u8], points: &[u16], lines: &[u32; 64]) -> Result<Price
 pub fn edge_after(points: &[u16], i: usize, n: usize) -> usize
     ensures { result ≡ get_or points.now i n }
 {
-    if i < points.len() {
-        points[i] as usize
-    } else {
-        n
+    match points.get(i) {
+        Some(point) => *point as usize,
+        None => n,
     }
 }

@@ -6,6 +6,7 @@ use Rattle.model.specs.declared.Header.{Header}
 use Rattle.lineset.specs.Members.{members}
 use Rattle.regions.specs.declared.MeasuredRegion.{MeasuredRegion}
 use Rattle.regions.specs.declared.CountedRegion.{CountedRegion}
+use Rattle.regions.specs.declared.Run.{Run}
 use Rattle.regions.specs.declared.Weighed.{Weighed}
 
 -- the region from edge a to edge b; 64 such numbers of lines or costs sum up in 64 bits
@@ -23,10 +24,10 @@ abbrev pub limit_after : Task → ℕ → ℕ → ℕ
 limit_after t a n = cond (armed_after t a n) (min t.header.limit (second_limit t)) t.header.limit
 
 -- the sum of the times of blocks a + 1 to b, and the limit that counts for them
-pub record RunBetween (t : Task) (a b time limit : ℕ) : Type 0 where
-  pub time-is : time ≡ time_after t a (b - a)
-  pub limit_is : limit ≡ limit_after t a (b - a)
-  pub small : time ≤ (b - a) * 4294967295
+pub record RunBetween (t : Task) (a b : ℕ) (r : Run) : Type 0 where
+  pub time-is : r.time ≡ time_after t a (b - a)
+  pub limit_is : r.limit ≡ limit_after t a (b - a)
+  pub small : r.time ≤ (b - a) * 4294967295
 
 -- a region's lines, the sum of its times, and the limit that counts for it; no basic blocks are a region that loads nothing
 pub record Counted (t : Task) (r : CountedRegion) : Type 0 where
@@ -34,7 +35,7 @@ pub record Counted (t : Task) (r : CountedRegion) : Type 0 where
   pub within : r.to ≤ block_count t
   pub lines : r.lines ≡ region_lines t r.from r.to
   pub few : r.lines ≤ 512
-  pub run : RunBetween t r.from r.to r.time r.limit
+  pub run : RunBetween t r.from r.to r.run
 
 -- the length, the cost and the fit of a region of whatever task has this header
 pub record Weighs (header : Header) (r : CountedRegion) (w : Weighed) : Type 0 where

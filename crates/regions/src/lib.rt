@@ -10,6 +10,7 @@ ghost use Rattle.regions.specs.Measures.{Measures, RunBetween, Weighs, WeighsReg
 
 use lineset::LineSet;
 use model::Header;
+use std::cmp::min;
 
 // A region's loaded lines and their number, its length, its cost and whether it fits.
 #[derive(Clone, Copy)]
@@ -21,21 +22,20 @@ pub struct MeasuredRegion {
     pub fits: bool,
 }
 
-// A region whose lines are counted and whose times are summed up, block by block, and the limit that counts for it.
+// The sum of the times of some blocks, and the limit that counts for them.
+#[derive(Clone, Copy)]
+pub struct Run {
+    pub time: u64,
+    pub limit: u32,
+}
+
+// A region whose lines are counted, block by block, and the run of its blocks.
 #[derive(Clone, Copy)]
 pub struct CountedRegion {
     pub from: usize,
     pub to: usize,
     pub lines: u32,
-    pub time: u64,
-    pub limit: u32,
-}
-
-// The sum of the times of some blocks, and the limit that counts for them.
-#[derive(Clone, Copy)]
-struct Run {
-    time: u64,
-    limit: u32,
+    pub run: Run,
 }
 
 // What follows from a region's times and lines: its length, its cost and whether it fits.
@@ -70,33 +70,57 @@ pub fn weigh_between(file: &[u8], a: usize, b: usize, lines: u32) -> Weighed
     requires { IsAccepted file.now × (a ≤ b) × (b ≤ block_count (task_of file.now)) × (lines ≡ region_lines (task_of file.now) a b) }
     ensures { WeighsRegion (task_of file.now) a b result }
 {
-    let header = taskfile::header(file);
-    let run = run_between(file, a, b);
     let region = CountedRegion {
         from: a,
         to: b,
         lines,
-        time: run.time,
-        limit: run.limit,
+        run: run_between(file, a, b),
     };
-    region.weigh(header)
+    region.weigh(taskfile::header(file))
 }
 
 // Blocks a + 1 to b.
 fn run_between(file: &[u8], a: usize, b: usize) -> Run
     requires { IsAccepted file.now × (a ≤ b) × (b ≤ block_count (task_of file.now)) }
-    ensures { RunBetween (task_of file.now) a b result.time result.limit }
+    ensures { RunBetween (task_of file.now) a b result }
 {
     let header = taskfile::header(file);
-    let mut time = 0u64;
-    let mut limit = header.limit;
-    let mut i = a;
-    while i < b {
-        i += 1;
-        time += taskfile::time(file, i) as u64;
-        limit = limit_with(header, limit, taskfile::armed(file, i));
+    let mut run = Run::none(header);
+    for i in a..b {
+        run = run.longer(
+            header,
+            taskfile::time(file, i + 1),
+            taskfile::armed(file, i + 1),
+        );
     }
-    Run { time, limit }
+    run
+}
+
+impl Run {
+    // No basic blocks.
+    fn none(header: Header) -> Self
+        ensures { result ≡ record { time = 0; limit = header.limit } }
+    {
+        Run {
+            time: 0,
+            limit: header.limit,
+        }
+    }
+
+    // One basic block more, with its time, and the limit that counts where the sampler is armed in it: the smaller of Q and Q2.
+    fn longer(self, header: Header, time: u32, armed: bool) -> Self
+        requires { self.time ≤ 64 * 4294967295 }
+        ensures { (result.time ≡ self.time + time) × (result.limit ≡ cond armed (min header.limit header.second_limit) self.limit) }
+    {
+        Run {
+            time: self.time + time as u64,
+            limit: if armed {
+                min(header.limit, header.second_limit)
+            } else {
+                self.limit
+            },
+        }
+    }
 }
 
 impl CountedRegion {
@@ -108,8 +132,7 @@ impl CountedRegion {
             from: a,
             to: a,
             lines: 0,
-            time: 0,
-            limit: header.limit,
+            run: Run::none(header),
         }
     }
 
@@ -122,34 +145,32 @@ impl CountedRegion {
         let to = self.to;
         let next = to + 1;
         let new = counts[64 * to + from];
-        let lines = self.lines + new as u32;
-        let before = self.time;
-        let time = before + taskfile::time(file, next) as u64;
-        let armed = taskfile::armed(file, next);
-        let limit = limit_with(taskfile::header(file), self.limit, armed);
+        let run = self.run.longer(
+            taskfile::header(file),
+            taskfile::time(file, next),
+            taskfile::armed(file, next),
+        );
         CountedRegion {
             from,
             to: next,
-            lines,
-            time,
-            limit,
+            lines: self.lines + new as u32,
+            run,
         }
     }
 
     // The region's length, its cost and whether it fits.
     pub fn weigh(self, header: Header) -> Weighed
-        requires { (self.time ≤ 64 * 4294967295) × (self.lines ≤ 512) }
+        requires { (self.run.time ≤ 64 * 4294967295) × (self.lines ≤ 512) }
         ensures { Weighs header self result }
     {
-        let time = self.time;
+        let time = self.run.time;
         let reloads = header.reload as u64 * self.lines as u64;
         let cost = reloads + switch_at(header, self.from) as u64;
         let length = time + cost;
-        let limit = self.limit as u64;
         Weighed {
             length,
             cost,
-            fits: length <= limit,
+            fits: length <= self.run.limit as u64,
         }
     }
 }
@@ -159,17 +180,4 @@ fn switch_at(header: Header, edge: usize) -> u32
     ensures { result ≡ cond (eqb edge 0) 0 header.switch }
 {
     if edge == 0 { 0 } else { header.switch }
-}
-
-// The limit that counts with one basic block more: the smaller of Q and Q2 where the sampler is armed in it.
-fn limit_with(header: Header, without: u32, armed: bool) -> u32
-    ensures { result ≡ cond armed (min header.limit header.second_limit) without }
-{
-    let limit = header.limit;
-    let second = header.second_limit;
-    if armed {
-        if second < limit { second } else { limit }
-    } else {
-        without
-    }
 }

@@ -1,3 +1,4 @@
+pub mod SameLine
 pub mod Looked
 pub mod Below
 pub mod Marks

@@ -5,12 +5,16 @@ use Prim.Native.Nat.{ℕ, suc, ◌+◌, ◌<◌}
 use mathlib.Core.Path.{◌≡◌, refl, sym, ap, ◌∙◌}
 use mathlib.Core.Bool.{Bool, true, false, cond}
 use mathlib.Core.List.{List, [], ◌∷◌, ◌++◌}
+use mathlib.Core.Logic.{by_cases}
+use native.Mathlib.Decide.{ℕ_discrete}
 use native.Mathlib.Nat.{zero-add}
 use native.Mathlib.Numerals.{add-one}
 use native.Mathlib.Omega.{arith}
 use lib.Dec.{eqb}
+use Rattle.std.specs.Option.{option_eq}
 use lib.ListN.{length, get_or, drop}
 use lib.Seq.{drop-cons}
+use borrow.Author.Tests.{ne_eqb}
 use Rattle.model.specs.Lines.{first_read, looked_at, same_block, as_next}
 use Rattle.model.specs.declared.Line.{Line}
 use Rattle.model.specs.declared.Line.TheVariants.{Empty, Held}
@@ -19,14 +23,10 @@ not-both : {m : ℕ} → Some m ≡ None → ⊥
 not-both e = let z : ◌≡◌ {A = ℕ} 0 1 = cc in omega arith
 
 -- what the search's answer says of a line that holds this number
-
-pub never-same : (number : ℕ) (l : Line) → as_next l ≡ None → same_block (Held number) l ≡ false
-never-same number Empty e = refl
-never-same number (Held n) e = absurd (not-both e)
-
-pub read_same : (number m : ℕ) (l : Line) → as_next l ≡ Some m → same_block (Held number) l ≡ eqb number m
-read_same number m Empty e = absurd (not-both (sym e))
-read_same number m (Held n) e = let same : n ≡ m = cc in ap (eqb number) same
+pub next-same : (number : ℕ) (l : Line) → option_eq eqb (as_next l) (Some number) ≡ same_block (Held number) l
+next-same number Empty = refl
+next-same number (Held n) =
+    by_cases (ℕ_discrete n number) (λ e. rw e refl) (λ k. ne_eqb n number k ∙ sym (ne_eqb number n (λ e. k (sym e))))
 
 module _ (on : ℕ → Bool) where
   -- of all reads these are left, and so many were looked at

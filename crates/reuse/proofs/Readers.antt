@@ -14,7 +14,7 @@ use borrow.Author.Tests.{ne_eqb}
 use Rattle.model.specs.Task.{Task, block_count}
 use Rattle.model.specs.Lines.{on_line, first_read, any_read, same_block, reads_of, block_at, state_after, next_read, useful, accessed}
 use Rattle.model.specs.declared.Line.{Line}
-use Rattle.model.specs.declared.Line.TheVariants.{Empty}
+use Rattle.model.specs.declared.Line.TheVariants.{Empty, Held}
 use Rattle.model.proofs.LineStates.{first-append, holds-none}
 use Rattle.model.proofs.ReadOrder.{reads-from}
 use Rattle.reuse.specs.States.{first_reader, edge_before, FirstReaders, FirstBy, NotedTo, Settled}
@@ -78,13 +78,15 @@ module _ (t : Task) (c : ℕ) where
     noted-next : Settled t b readers c → next_read t (edge_before (block_count t) (get_or readers c 0)) c ≡ next_read t k c
     noted-next settled = rw (are c below) (reader-next k (b - k) (omega arith) (λ z. omega (arith, settled (are c below ∙ z))))
 
-    pub noted-useful : (line : Line) → line ≡ state_after t k c → (line ≡ Empty) ⊎ Settled t b readers c
-        → same_block line (next_read t (edge_before (block_count t) (get_or readers c 0)) c) ≡ useful t k c
+    pub noted-useful : (number : ℕ) → Held number ≡ state_after t k c → Settled t b readers c
+        → same_block (Held number) (next_read t (edge_before (block_count t) (get_or readers c 0)) c) ≡ useful t k c
     unfolding useful
-    noted-useful line is known =
-        rw (← is)
-        (⊎_elim (λ e. rw e (holds-none (next_read t (edge_before (block_count t) (get_or readers c 0)) c) ∙ sym (holds-none (next_read t k c))))
-        (λ settled. ap (same_block line) (noted-next settled)) known)
+    noted-useful number is settled = rw (← is) (ap (same_block (Held number)) (noted-next settled))
+
+-- an empty line is not
+pub empty-useless : (t : Task) (k c : ℕ) → Empty ≡ state_after t k c → useful t k c ≡ false
+unfolding useful
+empty-useless t k c is = rw (← is) (holds-none (next_read t k c))
 
 -- the readers of one block more
 pub noted_more : (t : Task) (i : ℕ) {b : ℕ} {before after after' : List ℕ} → NotedTo t b i before after → i < block_count t → length after' ≡ 512

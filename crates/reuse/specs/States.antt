@@ -11,13 +11,9 @@ use Rattle.model.specs.declared.Line.TheVariants.{Empty}
 abbrev pub HeldAfter : Task → ℕ → List Line → Type 0
 HeldAfter t k held = (length held ≡ 512) × ((c : ℕ) → c < 512 → get_or held c Empty ≡ state_after t k c)
 
--- the lines of s are marked too
-abbrev pub MarkedToo : Lines → List Bool → List Bool → Type 0
-MarkedToo s before after = (d : ℕ) → d < 512 → get_or after d false ≡ (get_or before d false || s d)
-
 -- the lines of s are marked with n
-abbrev pub MarkedBy : Lines → ℕ → List ℕ → List ℕ → Type 0
-MarkedBy s n before after = (d : ℕ) → d < 512 → get_or after d 0 ≡ cond (s d) n (get_or before d 0)
+abbrev pub MarkedBy : {A : Type 0} → Lines → A → List A → List A → Type 0
+MarkedBy s n before after = (d : ℕ) → d < 512 → get_or after d n ≡ cond (s d) n (get_or before d n)
 
 -- a place as a mark of eight bits: 32 is none
 abbrev pub mark_of : Option ℕ → ℕ

@@ -12,7 +12,7 @@ ghost use Rattle.lineset.specs.Members.{members};
 ghost use Rattle.taskfile.specs.File.{IsAccepted, counts, task_of, entry_reads};
 ghost use Rattle.cacheline.specs.Geometries.{GeometryOf, WithinCache};
 ghost use Rattle.reuse.specs.Counts.{NewLines, Rereads, row_sum, SummedRow, SummedRows, OthersStay};
-ghost use Rattle.reuse.specs.States.{HeldAfter, MarkedToo, MarkedBy, FirstMarks, edge_before, FirstBy, NotedTo, Settled};
+ghost use Rattle.reuse.specs.States.{HeldAfter, MarkedBy, FirstMarks, edge_before, FirstBy, NotedTo, Settled};
 ghost use Rattle.reuse.specs.FirstReads.{first_in, Noted};
 
 use cacheline::Geometry;
@@ -50,24 +50,21 @@ fn search_from(file: &[u8], cache: Geometry, k: usize, c: usize) -> Search
 {
     let blocks = taskfile::block_count(file);
     let mut looked = 0;
-    let mut i = k;
-    while i < blocks {
+    for i in k..blocks {
         let found = search_block(file, cache, i + 1, c);
-        let next = found.next;
         looked += found.looked;
-        let None = next else {
-            return Search { next, looked };
-        };
-        i += 1;
+        if let Some(number) = found.next {
+            return Search {
+                next: Some(number),
+                looked,
+            };
+        }
     }
-    Search {
-        next: None,
-        looked,
-    }
+    Search { next: None, looked }
 }
 
-// The first read of line c in block k of the file. Each turn looks at two reads, which halves the
-// turns.
+// The first read of line c in block k of the file. Each turn looks at two reads: with one a search took 1.1 to 1.3
+// of the time.
 fn search_block(file: &[u8], cache: Geometry, k: usize, c: usize) -> Search
     requires accepted { IsAccepted file.now × (1 ≤ k) × (k ≤ (counts file.now).blocks + (counts file.now).preempters) }
     requires geometry_of { GeometryOf (task_of file.now) cache }
@@ -75,9 +72,8 @@ fn search_block(file: &[u8], cache: Geometry, k: usize, c: usize) -> Search
     ensures looked_value { (result.looked ≡ looked_at (on_line (task_of file.now) c) (entry_reads file.now k)) × (result.looked ≤ 124) }
 {
     let reads = taskfile::read_count(file, k);
-    let mut left = reads;
-    while 1 < left {
-        let at = reads - left;
+    for i in 0..reads / 2 {
+        let at = 2 * i;
         let number = taskfile::read(file, k, at);
         if cache.lies_on(number, c) {
             let looked = at + 1;
@@ -94,9 +90,8 @@ fn search_block(file: &[u8], cache: Geometry, k: usize, c: usize) -> Search
                 looked,
             };
         }
-        left -= 2;
     }
-    if 0 < left {
+    if reads % 2 == 1 {
         let last = taskfile::read(file, k, reads - 1);
         if cache.lies_on(last, c) {
             return Search {
@@ -119,44 +114,22 @@ pub fn useful_lines(file: &[u8], k: usize) -> LineSet
     ensures { (c : ℕ) → members result c ≡ Lines.useful (task_of file.now) k c }
 {
     let cache = cacheline::geometry_of(file);
-    let count = cache.line_count as usize;
     let blocks = taskfile::block_count(file);
     let held = held_after(file, cache, k);
     let mut readers = [0u8; 512];
     let mut lines = LineSet::empty();
     let mut b = k;
-    let mut c = 0;
-    while c < count {
-        let line = held[c];
-        b = note_for(&mut readers, file, cache, b, c, line);
-        lines = with_marked(
-            lines,
-            c,
-            is_reread(file, cache, edge_before(readers[c], blocks), c, line),
-        );
-        c += 1;
+    for c in 0..cache.line_count as usize {
+        match held[c] {
+            Line::Empty => {}
+            Line::Held(number) => {
+                b = note_until(&mut readers, file, cache, b, c);
+                let edge = edge_before(readers[c], blocks);
+                lines = with_marked(lines, c, is_next(file, cache, edge, c, number));
+            }
+        }
     }
     lines
-}
-
-// Notes first readers behind block b until line c has one, if the line holds something; answers the last block that was noted.
-fn note_for(
-    readers: &mut [u8; 512],
-    file: &[u8],
-    cache: Geometry,
-    b: usize,
-    c: usize,
-    line: Line,
-) -> usize
-    requires readers_len { (length readers.old ≡ 512) × (c < 512) }
-    requires accepted { IsAccepted file.now × (b ≤ block_count (task_of file.now)) × GeometryOf (task_of file.now) cache }
-    ensures noted_to { NotedTo (task_of file.now) b result readers.old readers.new }
-    ensures fact { (line ≡ Line.Empty) ⊎ Settled (task_of file.now) result readers.new c }
-{
-    match line {
-        Line::Empty => b,
-        Line::Held(_) => note_until(readers, file, cache, b, c),
-    }
 }
 
 // Notes first readers behind block b, block after block, until line c has one or no block is left; answers the last block that was noted.
@@ -167,12 +140,13 @@ fn note_until(readers: &mut [u8; 512], file: &[u8], cache: Geometry, b: usize, c
     ensures settled { Settled (task_of file.now) result readers.new c }
 {
     let blocks = taskfile::block_count(file);
-    let mut i = b;
-    while (i < blocks) & (readers[c] == 0) {
-        i += 1;
-        note_block(readers, file, cache, i);
+    for i in b..blocks {
+        if readers[c] != 0 {
+            return i;
+        }
+        note_block(readers, file, cache, i + 1);
     }
-    i
+    blocks
 }
 
 // Notes block k of the file as the first reader of the lines that it reads and that have none.
@@ -184,11 +158,9 @@ fn note_block(readers: &mut [u8; 512], file: &[u8], cache: Geometry, k: usize)
     ensures first_by { FirstBy (λ d. any_read (on_line (task_of file.now) d) (entry_reads file.now k)) k readers.old readers.new }
 {
     let reads = taskfile::read_count(file, k);
-    let mut j = 0;
-    while j < reads {
+    for j in 0..reads {
         let mapping = cache.line_of(taskfile::read(file, k, j));
         note_reader(readers, mapping, k as u8);
-        j += 1;
     }
 }
 
@@ -198,9 +170,8 @@ fn note_reader(readers: &mut [u8; 512], mapping: Option<usize>, by: u8)
     ensures readers_len { length readers.new ≡ 512 }
     ensures first_by { FirstBy (λ d. is_line d mapping) by readers.old readers.new }
 {
-    match mapping {
-        None => {}
-        Some(c) => readers[c] = first_reader(readers[c], by),
+    if let Some(c) = mapping {
+        readers[c] = first_reader(readers[c], by);
     }
 }
 
@@ -250,10 +221,8 @@ fn first_lines(
     ensures { Noted (task_of file.now) (reads_of (take (b - a) (drop a (task_of file.now).blocks))) read.old first.old read.new first.new (members result) }
 {
     let mut lines = LineSet::empty();
-    let mut k = a;
-    while k < b {
-        k += 1;
-        lines = lines.union(first_lines_in(read, first, file, cache, k));
+    for k in a..b {
+        lines = lines.union(first_lines_in(read, first, file, cache, k + 1));
     }
     lines
 }
@@ -273,11 +242,9 @@ fn first_lines_in(
 {
     let reads = taskfile::read_count(file, k);
     let mut lines = LineSet::empty();
-    let mut j = 0;
-    while j < reads {
+    for j in 0..reads {
         let number = taskfile::read(file, k, j);
         lines = note(read, first, lines, cache.line_of(number), number);
-        j += 1;
     }
     lines
 }
@@ -296,17 +263,15 @@ fn note(
     ensures by_index_2 { (c : ℕ) → get_or first.new c 0 ≡ cond (not (get_or read.old c false) && is_line c mapping) number (get_or first.old c 0) }
     ensures by_index_3 { (c : ℕ) → members result c ≡ (members lines c || not (get_or read.old c false) && is_line c mapping) }
 {
-    match mapping {
-        None => lines,
-        Some(c) => {
-            if read[c] {
-                return lines;
-            }
-            read[c] = true;
-            first[c] = number;
-            lines.with(c)
-        }
+    let Some(c) = mapping else {
+        return lines;
+    };
+    if read[c] {
+        return lines;
     }
+    read[c] = true;
+    first[c] = number;
+    lines.with(c)
 }
 
 // The lines below count that hold the number that was read on them first.
@@ -315,11 +280,9 @@ fn reread_lines(held: [Line; 512], read: &[bool; 512], first: &[u32; 512], count
     ensures { (c : ℕ) → members result c ≡ (ltb c count && same_block (get_or held c Line.Empty) (first_in read.now first.now c)) }
 {
     let mut lines = LineSet::empty();
-    let mut c = 0;
-    while c < count {
+    for c in 0..count {
         let line = held[c];
-        lines = with_marked(lines, c, read[c] & holds(line, first[c]));
-        c += 1;
+        lines = with_marked(lines, c, read[c] & (line == Line::Held(first[c])));
     }
     lines
 }
@@ -330,22 +293,15 @@ fn held_after(file: &[u8], cache: Geometry, k: usize) -> [Line; 512]
     ensures { HeldAfter (task_of file.now) k result }
 {
     let mut held = [Line::Empty; 512];
-    let mut i = 0;
-    while i < k {
+    for i in 0..k {
         let b = i + 1;
         let reads = taskfile::read_count(file, b);
-        let mut j = 0;
-        while j < reads {
+        for j in 0..reads {
             let number = taskfile::read(file, b, j);
-            match cache.line_of(number) {
-                None => {}
-                Some(c) => {
-                    held[c] = Line::Held(number);
-                }
+            if let Some(c) = cache.line_of(number) {
+                held[c] = Line::Held(number);
             }
-            j += 1;
         }
-        i += 1;
     }
     held
 }
@@ -361,28 +317,12 @@ fn edge_before(reader: u8, blocks: usize) -> usize
     }
 }
 
-// Whether the next read of line c after edge k is of the memory block that the line holds.
-fn is_reread(file: &[u8], cache: Geometry, k: usize, c: usize, line: Line) -> bool
-    requires { IsAccepted file.now × (k ≤ block_count (task_of file.now)) × GeometryOf (task_of file.now) cache }
-    ensures { result ≡ same_block line (next_read (task_of file.now) k c) }
-{
-    match line {
-        Line::Empty => false,
-        Line::Held(number) => is_next(file, cache, k, c, number),
-    }
-}
-
 // Whether the next read of line c after edge k is of this memory block.
 fn is_next(file: &[u8], cache: Geometry, k: usize, c: usize, number: u32) -> bool
     requires { IsAccepted file.now × (k ≤ block_count (task_of file.now)) × GeometryOf (task_of file.now) cache }
     ensures { result ≡ same_block (Line.Held number) (next_read (task_of file.now) k c) }
 {
-    let found = search_from(file, cache, k, c);
-    let next = found.next;
-    match next {
-        None => false,
-        Some(m) => number == m,
-    }
+    search_from(file, cache, k, c).next == Some(number)
 }
 
 // H: the lines that the preempters evict. They are marked first, and each is then added to the set once.
@@ -404,33 +344,29 @@ pub fn mark_evicted(marks: &mut [bool; 512], file: &[u8], cache: Geometry)
 {
     let first = taskfile::block_count(file) + 1;
     let end = first + taskfile::preempter_count(file);
-    let mut k = first;
-    while k < end {
-        mark_reads(marks, file, cache, k);
-        k += 1;
+    for k in first..end {
+        mark_reads(marks, file, cache, k, true);
     }
 }
 
-// Marks the lines that block k of the file reads.
-fn mark_reads(marks: &mut [bool; 512], file: &[u8], cache: Geometry, k: usize)
+// Marks the lines that block k of the file reads with this mark.
+fn mark_reads<T: Copy>(marks: &mut [T; 512], file: &[u8], cache: Geometry, k: usize, mark: T)
     requires marks_len { length marks.old ≡ 512 }
     requires accepted { IsAccepted file.now × (1 ≤ k) × (k ≤ (counts file.now).blocks + (counts file.now).preempters) }
     requires geometry_of { GeometryOf (task_of file.now) cache }
     ensures marks_len_2 { length marks.new ≡ 512 }
-    ensures marked_too { MarkedToo (λ d. any_read (on_line (task_of file.now) d) (entry_reads file.now k)) marks.old marks.new }
+    ensures marked_by { MarkedBy (λ d. any_read (on_line (task_of file.now) d) (entry_reads file.now k)) mark marks.old marks.new }
 {
     let whole = cache.caches_all();
     let reads = taskfile::read_count(file, k);
-    let mut j = 0;
-    while j < reads {
+    for j in 0..reads {
         let slot = cache.slot_of(taskfile::read(file, k, j));
         let c = slot.line;
         if whole {
-            marks[c] = true;
+            marks[c] = mark;
         } else {
-            marks[c] = marks[c] | slot.cached;
+            marks[c] = if_cached(slot.cached, mark, marks[c]);
         }
-        j += 1;
     }
 }
 
@@ -441,28 +377,8 @@ pub fn mark_first(marks: &mut [u8; 512], file: &[u8], cache: Geometry)
     ensures { FirstMarks (task_of file.now) marks.new }
 {
     let start = taskfile::block_count(file) + 1;
-    let mut i = taskfile::preempter_count(file);
-    while 0 < i {
-        i -= 1;
-        mark_reads_by(marks, file, cache, start + i, i as u8);
-    }
-}
-
-// Marks the lines that block k of the file reads with this number.
-fn mark_reads_by(marks: &mut [u8; 512], file: &[u8], cache: Geometry, k: usize, by: u8)
-    requires marks_len { length marks.old ≡ 512 }
-    requires accepted { IsAccepted file.now × (1 ≤ k) × (k ≤ (counts file.now).blocks + (counts file.now).preempters) }
-    requires geometry_of { GeometryOf (task_of file.now) cache }
-    ensures marks_len_2 { length marks.new ≡ 512 }
-    ensures marked_by { MarkedBy (λ d. any_read (on_line (task_of file.now) d) (entry_reads file.now k)) by marks.old marks.new }
-{
-    let reads = taskfile::read_count(file, k);
-    let mut j = 0;
-    while j < reads {
-        let slot = cache.slot_of(taskfile::read(file, k, j));
-        let c = slot.line;
-        marks[c] = if_cached(slot.cached, by, marks[c]);
-        j += 1;
+    for i in (0..taskfile::preempter_count(file)).rev() {
+        mark_reads(marks, file, cache, start + i, i as u8);
     }
 }
 
@@ -472,10 +388,8 @@ fn marked_lines(marks: &[bool; 512], count: usize) -> LineSet
     ensures { (d : ℕ) → members result d ≡ (ltb d count && get_or marks.now d false) }
 {
     let mut set = LineSet::empty();
-    let mut c = 0;
-    while c < count {
+    for c in 0..count {
         set = with_marked(set, c, marks[c]);
-        c += 1;
     }
     set
 }
@@ -513,12 +427,10 @@ fn count_rereads(file: &[u8], cache: Geometry, evicted: &[bool; 512], counts: &m
     let whole = cache.caches_all();
     let mut held = [Line::Empty; 512];
     let mut since = [0u8; 512];
-    let mut i = 0;
-    while i < blocks {
+    for i in 0..blocks {
         let b = i + 1;
         let reads = taskfile::read_count(file, b);
-        let mut j = 0;
-        while j < reads {
+        for j in 0..reads {
             let number = taskfile::read(file, b, j);
             let slot = cache.slot_of(number);
             let c = slot.line;
@@ -530,11 +442,9 @@ fn count_rereads(file: &[u8], cache: Geometry, evicted: &[bool; 512], counts: &m
             if whole {
                 held[c] = Line::Held(number);
             } else {
-                held[c] = line_after(line, number, slot.cached);
+                held[c] = if_cached(slot.cached, Line::Held(number), line);
             }
-            j += 1;
         }
-        i += 1;
     }
 }
 
@@ -542,7 +452,7 @@ fn count_rereads(file: &[u8], cache: Geometry, evicted: &[bool; 512], counts: &m
 fn reread(line: Line, number: u32, evicted: bool) -> u8
     ensures { (result ≡ bit (evicted && same_block line (Line.Held number))) × (result ≤ 1) }
 {
-    (evicted & holds(line, number)) as u8
+    (evicted & (line == Line::Held(number))) as u8
 }
 
 // Puts at each column of a row, up to the row's own number, the sum of those before it.
@@ -551,10 +461,8 @@ fn sum_rows(counts: &mut [u8; 4096], rows: usize)
     ensures counts_len { length counts.new ≡ 4096 }
     ensures summed_rows { SummedRows rows counts.old counts.new }
 {
-    let mut i = 0;
-    while i < rows {
+    for i in 0..rows {
         sum_row(counts, i);
-        i += 1;
     }
 }
 
@@ -566,36 +474,17 @@ fn sum_row(counts: &mut [u8; 4096], i: usize)
     ensures others_stay { OthersStay i counts.old counts.new }
 {
     let mut sum = 0u8;
-    let mut a = 0;
-    while a <= i {
+    for a in 0..i + 1 {
         let at = 64 * i + a;
         let here = counts[at];
         counts[at] = sum;
         sum += here;
-        a += 1;
     }
 }
 
-// What a line holds after a read of a number whose slot is there: the number, if it is cached.
-pub fn line_after(line: Line, number: u32, cached: bool) -> Line
-    ensures { result ≡ cond cached (Line.Held number) line }
-{
-    if cached { Line::Held(number) } else { line }
-}
-
-// The new entry of a line after such a read, if the number is cached, and otherwise the old one.
-pub fn if_cached(cached: bool, new: u8, old: u8) -> u8
+// The new entry of a line after a read, if the number is cached, and otherwise the old one.
+pub fn if_cached<T: Copy>(cached: bool, new: T, old: T) -> T
     ensures { result ≡ cond cached new old }
 {
     if cached { new } else { old }
-}
-
-// Whether a line holds this memory block.
-pub fn holds(line: Line, number: u32) -> bool
-    ensures { result ≡ same_block line (Line.Held number) }
-{
-    match line {
-        Line::Empty => false,
-        Line::Held(m) => m == number,
-    }
 }

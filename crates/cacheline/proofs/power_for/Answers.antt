@@ -1,30 +1,30 @@
--- `cacheline::power_for` meets its contract: the loop's invariant is that the power is at most the product.
-use Prim.Native.Nat.{ℕ, ◌+◌, ◌*◌, ◌^◌, ◌<◌, ◌≤◌}
-use mathlib.Core.Path.{◌≡◌, sym, ap, ◌∙◌}
+-- `cacheline::power_for` meets its contract: the greatest power of two that is at most the count, times 2 ^ 32.
+use Prim.Native.Nat.{ℕ, ◌+◌, ◌*◌, ◌%◌, ◌^◌, ◌<◌, ◌≤◌}
+use mathlib.Core.Path.{◌≡◌}
 use native.Mathlib.Nat.{lt_of_not-le}
 use native.Mathlib.Omega.{arith}
 use lib.Pow.{pow-lt, pow-add}
+use Rattle.std.proofs.lemmas.Nat.{one_shl}
 use Rattle.cacheline.proofs.power_for.Goals as goal
 
-twice : (value k : ℕ) → value ≡ 2 ^ k → value * 2 ≡ 2 ^ (k + 1)
-twice value k is = ap (λ (n : ℕ). n * 2) is ∙ sym (pow-add 2 k 1)
+-- a power up to 512
+narrow : (k : ℕ) → 2 ^ k ≤ 512 → k < 10
+narrow k most = lt_of_not-le (λ (h : 10 ≤ k). omega (arith, pow-lt {i = 9} {j = k} (omega arith)))
 
--- a power that has a double up to 2 ^ 41
-narrow : (value k : ℕ) → value ≡ 2 ^ k → value * 2 ≤ 2 ^ 41 → k < 41
-narrow value k is most = lt_of_not-le (λ (h : 41 ≤ k). omega (arith, pow-lt {i = 41} {j = k + 1} (omega arith), twice value k is))
-
-pub loop-value-smaller : goal.loop-value-smaller
-loop-value-smaller c =
-    let at = c.loop-value in
-    omega (arith, narrow at.value at.shift at.invariant.0 (omega arith))
-
-pub loop-value-preserved : goal.loop-value-preserved
-loop-value-preserved c =
-    let at = c.loop-value in
-    let below = narrow at.value at.shift at.invariant.0 (omega arith) in
-    (twice at.value at.shift at.invariant.0, omega arith, omega arith, omega (arith, below))
+pub overflow_shl-result : goal.overflow_shl-result
+overflow_shl-result c =
+    omega (arith, narrow c.ilog2-shift.result (omega (arith, c.ilog2-shift.ensures.power_le, c.requires.1)))
 
 pub returns : goal.returns
 returns c =
-    let inv = c.loop-value.invariant in
-    record { value = inv.0; most = inv.1; greatest = omega arith; wide = inv.2; narrow = omega arith }
+    let k = c.ilog2-shift.result in
+    let small : k < 10 = narrow k (omega (arith, c.ilog2-shift.ensures.power_le, c.requires.1)) in
+    let value : 1 * 2 ^ (32 + k) % 18446744073709551616 ≡ 2 ^ (32 + k) = one_shl (32 + k) 64 (omega arith) in
+    let parts : 2 ^ (32 + k) ≡ 2 ^ 32 * 2 ^ k = pow-add 2 32 k in
+    record {
+      value = value;
+      most = omega (arith, value, parts, c.ilog2-shift.ensures.power_le);
+      greatest = omega (arith, value, parts, c.ilog2-shift.ensures.next_power_gt);
+      wide = omega arith;
+      narrow = omega arith;
+    }

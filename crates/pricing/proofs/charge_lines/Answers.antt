@@ -27,10 +27,10 @@ pub loop-i-init : goal.loop-i-init
 loop-i-init c =
     let t = task_of c.args.file.now in
     let ps = c.args.points.now in
-    (omega arith, known-none t, at-start t ps c.args.lines.now c.requires.2, rw c.requires.3 (charged-none t ps))
+    (known-none t, at-start t ps c.args.lines.now c.requires.2, rw c.requires.3 (charged-none t ps))
 
 pub overflow_add-region : goal.overflow_add-region
-overflow_add-region c = omega (arith, c.loop-i.invariant.2.index)
+overflow_add-region c = omega (arith, c.loop-i.invariant.1.index)
 
 -- the region of the block after edge i, and what is known of the lines there
 entered : (c : goal.Joined-edge_after-i)
@@ -52,16 +52,16 @@ entered c =
       | then-edge_after-i w ↦
           let ends : get_or ps l.region (block_count t) ≡ l.i = sym end ∙ w.if-edge_after-i.true in
           let inside : l.i < block_count t = omega (arith, c.loop-i-test.true) in
-          let next = next-region t ps c.args.lines.now least c.requires.1 l.invariant.2 ends inside in
+          let next = next-region t ps c.args.lines.now least c.requires.1 l.invariant.1 ends inside in
           rw (w.region-is, w.count-is) (
             next.0,
             next.2,
-            rw next.1 (known-block (known-region l.invariant.1)),
-            charged-region l.invariant.3 l.invariant.2.index ends l.invariant.2.passed (omega arith) next.1,
+            rw next.1 (known-block (known-region l.invariant.0)),
+            charged-region l.invariant.2 l.invariant.1.index ends l.invariant.1.passed (omega arith) next.1,
           )
       | else-edge_after-i w ↦
           let other : get_or ps l.region (block_count t) ≡ l.i → ⊥ = λ e. w.if-edge_after-i.false (end ∙ e) in
-          rw (w.region-is, w.count-is) (l.invariant.2, omega (arith, l.invariant.2.end), known-block l.invariant.1, l.invariant.3)
+          rw (w.region-is, w.count-is) (l.invariant.1, omega (arith, l.invariant.1.end), known-block l.invariant.0, l.invariant.2)
     ]
 
 -- there are at most 64 regions
@@ -84,7 +84,7 @@ read_count-reads-requires c =
 pub loop-j-init : goal.loop-j-init
 loop-j-init c =
     let at = entered (goal.at.loop-j-init c).Joined-edge_after-i in
-    (omega arith, rw add-zero at.2, at.0.counted ∙ rw add-zero refl, rw add-zero at.3)
+    (rw add-zero at.2, at.0.counted ∙ rw add-zero refl, rw add-zero at.3)
 
 pub read-number-requires : goal.read-number-requires
 read-number-requires c =
@@ -107,13 +107,13 @@ overflow_add-count c =
     let inner = c.loop-j in
     let args = c.args in
     let t = task_of args.file.now in
-    omega (arith, c.loads-loaded.ensures.1, inner.invariant.2, loaded-few t (evicted t) (start_of t args.points.now c.if-edge_after-i.region) (edge t c.loop-i.i + inner.j))
+    omega (arith, c.loads-loaded.ensures.1, inner.invariant.1, loaded-few t (evicted t) (start_of t args.points.now c.if-edge_after-i.region) (edge t c.loop-i.i + inner.j))
 
 pub overflow_add-charges : goal.overflow_add-charges
 overflow_add-charges c =
     let inner = c.loop-j in
     let mark = get_or c.mark_first.new.marks c.slot_of-slot.result.line 0 in
-    omega (arith, c.loads-loaded.ensures.1, few (goal.at.overflow_add-charges c).Joined-edge_after-i, charged-few inner.invariant.3 (mark % 32) (omega arith))
+    omega (arith, c.loads-loaded.ensures.1, few (goal.at.overflow_add-charges c).Joined-edge_after-i, charged-few inner.invariant.2 (mark % 32) (omega arith))
 
 pub bounds-since-c-in-loop-j : goal.bounds-since-c-in-loop-j
 bounds-since-c-in-loop-j c = omega (arith, c.slot_of-slot.ensures.1)
@@ -152,7 +152,7 @@ loop-j-preserved c =
     let next : edge t outer.i + (inner.j + 1) ≡ suc (edge t outer.i + inner.j) = omega arith in
     let of = slot.ensures.0 t cache.ensures in
     let more =
-    known_more t outer.i inner.j number.result inside counted number_is inside-region inner.invariant.1 line slot.result.cached slot.ensures.1 of.lies in
+    known_more t outer.i inner.j number.result inside counted number_is inside-region inner.invariant.0 line slot.result.cached slot.ensures.1 of.lies in
     let read-now : c.if_cached.result ≡ cond slot.result.cached (suc c.if-edge_after-i.region) (get_or inner.since line 0) =
     c.if_cached.ensures ∙ rw add-one refl in
     let most : preempter_count t ≤ 32 = omega (arith, accepted-file.preempter-count file, (accepted-file.accepted file c.requires.0).preempters-most) in
@@ -161,15 +161,14 @@ loop-j-preserved c =
     ≡ bit (evicted t line && slot.result.cached && same_block (get_or inner.held line Empty) (Held number.result) && ltb (get_or inner.since line 0) (suc c.if-edge_after-i.region)) =
     c.loads-loaded.ensures.0 ∙ rw (mark-tells t most line _ marked, add-one) refl in
     rw next (
-      omega (arith, taken),
       elim c.if-whole.branch [
         | then-whole w ↦
             rw w.held-is (more (Held number.result) _ (rw (all-cached t number.result slot.result of (sym (all.ensures t cache.ensures) ∙ w.if-whole.true)) refl) read-now)
-        | else-whole w ↦ rw w.held-is (more _ _ w.line_after.ensures read-now)
+        | else-whole w ↦ rw w.held-is (more _ _ w.if_cached-else-whole.ensures read-now)
       ],
-      ap₂ ◌+◌ inner.invariant.2 loads ∙
-          sym (known-loads t outer.i inner.j number.result inside counted number_is inside-region inner.invariant.1 line slot.result.cached slot.ensures.1 of.lies (evicted t)),
-      charged-more t outer.i inner.j number.result inside counted number_is inside-region inner.invariant.3 inner.invariant.1 line slot.result.cached slot.ensures.1 of.lies most _ _
+      ap₂ ◌+◌ inner.invariant.1 loads ∙
+          sym (known-loads t outer.i inner.j number.result inside counted number_is inside-region inner.invariant.0 line slot.result.cached slot.ensures.1 of.lies (evicted t)),
+      charged-more t outer.i inner.j number.result inside counted number_is inside-region inner.invariant.2 inner.invariant.0 line slot.result.cached slot.ensures.1 of.lies most _ _
           marked loads,
     )
 
@@ -188,13 +187,12 @@ loop-i-preserved c =
     let inside : outer.i < block_count t = omega (arith, c.loop-i-test.true, c.block_count-blocks.ensures.0) in
     let reads-are = accepted-file.reads_at file outer.i (omega (arith, accepted-file.block-count file)) in
     let whole : length (block_at t outer.i).reads ≡ inner.j =
-    rw reads-are (omega (arith, c.loop-j-test.false, inner.invariant.0, c.read_count-reads.ensures.0)) in
+    rw reads-are (omega (arith, c.loop-j-test.false, c.read_count-reads.ensures.0)) in
     let there : edge t outer.i + inner.j ≡ edge t (suc outer.i) = rw (edge-suc t outer.i inside, whole) refl in
     let at = entered (goal.at.loop-i-preserved c).Joined-edge_after-i in (
-      omega (arith, c.loop-i-test.true),
-      rw (add-one, ← there) inner.invariant.1,
-      next_edge t c.args.points.now c.args.lines.now (omega arith) c.requires.1 at.0 inner.count (accepted-file.few-blocks file c.requires.0) at.1 (inner.invariant.2 ∙ rw there refl),
-      rw (add-one, ← there) inner.invariant.3,
+      rw (add-one, ← there) inner.invariant.0,
+      next_edge t c.args.points.now c.args.lines.now (omega arith) c.requires.1 at.0 inner.count (accepted-file.few-blocks file c.requires.0) at.1 (inner.invariant.1 ∙ rw there refl),
+      rw (add-one, ← there) inner.invariant.2,
     )
 
 pub returns : goal.returns
@@ -204,8 +202,8 @@ returns c =
     let ps = c.args.points.now in
     let least : 0 < block_count t = omega (arith, c.block_count-blocks.ensures) in
     let end : l.i ≡ block_count t = omega (arith, c.block_count-blocks.ensures.0) in
-    let last = at_last t ps c.args.lines.now least c.requires.1 l.invariant.2 end in
+    let last = at_last t ps c.args.lines.now least c.requires.1 l.invariant.1 end in
     let ends : get_or ps l.region (block_count t) ≡ l.i = get_or-eq_default ps (block_count t) {n = l.region} (omega arith) ∙ sym end in (
-      at-end t ps c.args.lines.now least c.requires.1 l.invariant.2 end,
-      charged-all l.invariant.3 l.invariant.2.index ends l.invariant.2.passed (omega arith) last,
+      at-end t ps c.args.lines.now least c.requires.1 l.invariant.1 end,
+      charged-all l.invariant.2 l.invariant.1.index ends l.invariant.1.passed (omega arith) last,
     )

@@ -13,17 +13,11 @@ use Rattle.pricing.proofs.charge_lines.Given as goal
 
 abbrev pub invariant-loop-j : goal.invariant-loop-j
 invariant-loop-j l =
-    (l.j ≤ l.reads) × Known (task_of l.file) (edge (task_of l.file) l.i + l.j) (suc l.i) l.region (start_of (task_of l.file) l.points l.region) l.held l.since ×
+    Known (task_of l.file) (edge (task_of l.file) l.i + l.j) (suc l.i) l.region (start_of (task_of l.file) l.points l.region) l.held l.since ×
     (l.count ≡ loaded_by (task_of l.file) (evicted (task_of l.file)) (start_of (task_of l.file) l.points l.region) (edge (task_of l.file) l.i + l.j)) ×
     Charged (task_of l.file) l.points l.region (edge (task_of l.file) l.i + l.j) l.charges
 
-abbrev pub decreases-loop-j : goal.decreases-loop-j
-decreases-loop-j l = l.reads - l.j
-
 abbrev pub invariant-loop-i : goal.invariant-loop-i
 invariant-loop-i l =
-    (l.i ≤ l.blocks) × Known (task_of l.file) (edge (task_of l.file) l.i) l.i l.region (start_of (task_of l.file) l.points l.region) l.held l.since ×
+    Known (task_of l.file) (edge (task_of l.file) l.i) l.i l.region (start_of (task_of l.file) l.points l.region) l.held l.since ×
     AtEdge (task_of l.file) l.points l.initial.lines l.i l.region l.count l.lines × Charged (task_of l.file) l.points l.region (edge (task_of l.file) l.i) l.charges
-
-abbrev pub decreases-loop-i : goal.decreases-loop-i
-decreases-loop-i l = l.blocks - l.i

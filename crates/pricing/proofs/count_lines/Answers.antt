@@ -24,10 +24,10 @@ use Rattle.pricing.proofs.count_lines.Goals.{then-whole, else-whole, then-edge_a
 pub loop-i-init : goal.loop-i-init
 loop-i-init c =
     let t = task_of c.args.file.now in
-    (omega arith, known-none t, at-start t c.args.points.now c.args.lines.now c.requires.2)
+    (known-none t, at-start t c.args.points.now c.args.lines.now c.requires.2)
 
 pub overflow_add-region : goal.overflow_add-region
-overflow_add-region c = omega (arith, c.loop-i.invariant.2.index)
+overflow_add-region c = omega (arith, c.loop-i.invariant.1.index)
 
 -- the region of the block after edge i, and what is known of the lines there
 entered : (c : goal.Joined-edge_after-i)
@@ -46,11 +46,11 @@ entered c =
     let end : c.edge_after.result ≡ get_or ps l.region (block_count t) = c.edge_after.ensures ∙ ap (get_or ps l.region) blocks in
     elim c.if-edge_after-i.branch [
       | then-edge_after-i w ↦
-          let next = next-region t ps c.args.lines.now least c.requires.1 l.invariant.2 (sym end ∙ w.if-edge_after-i.true) (omega (arith, c.loop-i-test.true)) in
-          rw (w.region-is, w.count-is) (next.0, next.2, rw next.1 (known-block (known-region l.invariant.1)))
+          let next = next-region t ps c.args.lines.now least c.requires.1 l.invariant.1 (sym end ∙ w.if-edge_after-i.true) (omega (arith, c.loop-i-test.true)) in
+          rw (w.region-is, w.count-is) (next.0, next.2, rw next.1 (known-block (known-region l.invariant.0)))
       | else-edge_after-i w ↦
           let other : get_or ps l.region (block_count t) ≡ l.i → ⊥ = λ e. w.if-edge_after-i.false (end ∙ e) in
-          rw (w.region-is, w.count-is) (l.invariant.2, omega (arith, l.invariant.2.end), known-block l.invariant.1)
+          rw (w.region-is, w.count-is) (l.invariant.1, omega (arith, l.invariant.1.end), known-block l.invariant.0)
     ]
 
 -- there are at most 64 regions
@@ -73,7 +73,7 @@ read_count-reads-requires c =
 pub loop-j-init : goal.loop-j-init
 loop-j-init c =
     let at = entered (goal.at.loop-j-init c).Joined-edge_after-i in
-    (omega arith, rw add-zero at.2, at.0.counted ∙ rw add-zero refl)
+    (rw add-zero at.2, at.0.counted ∙ rw add-zero refl)
 
 pub read-number-requires : goal.read-number-requires
 read-number-requires c =
@@ -96,7 +96,7 @@ overflow_add-count c =
     let inner = c.loop-j in
     let args = c.args in
     let t = task_of args.file.now in
-    omega (arith, c.loads-count.ensures.1, inner.invariant.2, loaded-few t (evicted t) (start_of t args.points.now c.if-edge_after-i.region) (edge t c.loop-i.i + inner.j))
+    omega (arith, c.loads-count.ensures.1, inner.invariant.1, loaded-few t (evicted t) (start_of t args.points.now c.if-edge_after-i.region) (edge t c.loop-i.i + inner.j))
 
 pub bounds-since-c-in-loop-j : goal.bounds-since-c-in-loop-j
 bounds-since-c-in-loop-j c = omega (arith, c.slot_of-slot.ensures.1)
@@ -135,18 +135,17 @@ loop-j-preserved c =
     let next : edge t outer.i + (inner.j + 1) ≡ suc (edge t outer.i + inner.j) = omega arith in
     let of = slot.ensures.0 t cache.ensures in
     let more =
-    known_more t outer.i inner.j number.result inside counted number_is inside-region inner.invariant.1 line slot.result.cached slot.ensures.1 of.lies in
+    known_more t outer.i inner.j number.result inside counted number_is inside-region inner.invariant.0 line slot.result.cached slot.ensures.1 of.lies in
     let read-now : c.if_cached.result ≡ cond slot.result.cached (suc c.if-edge_after-i.region) (get_or inner.since line 0) =
     c.if_cached.ensures ∙ rw add-one refl in
     rw next (
-      omega (arith, taken),
       elim c.if-whole.branch [
         | then-whole w ↦
             rw w.held-is (more (Held number.result) _ (rw (all-cached t number.result slot.result of (sym (all.ensures t cache.ensures) ∙ w.if-whole.true)) refl) read-now)
-        | else-whole w ↦ rw w.held-is (more _ _ w.line_after.ensures read-now)
+        | else-whole w ↦ rw w.held-is (more _ _ w.if_cached-else-whole.ensures read-now)
       ],
-      ap₂ ◌+◌ inner.invariant.2 (c.loads-count.ensures.0 ∙ rw (c.mark_evicted.ensures.by_index line, ← (add-one c.if-edge_after-i.region)) refl) ∙
-          sym (known-loads t outer.i inner.j number.result inside counted number_is inside-region inner.invariant.1 line slot.result.cached slot.ensures.1 of.lies (evicted t)),
+      ap₂ ◌+◌ inner.invariant.1 (c.loads-count.ensures.0 ∙ rw (c.mark_evicted.ensures.by_index line, ← (add-one c.if-edge_after-i.region)) refl) ∙
+          sym (known-loads t outer.i inner.j number.result inside counted number_is inside-region inner.invariant.0 line slot.result.cached slot.ensures.1 of.lies (evicted t)),
     )
 
 pub offset_bounds-lines-region : goal.offset_bounds-lines-region
@@ -164,12 +163,11 @@ loop-i-preserved c =
     let inside : outer.i < block_count t = omega (arith, c.loop-i-test.true, c.block_count-blocks.ensures.0) in
     let reads-are = accepted-file.reads_at file outer.i (omega (arith, accepted-file.block-count file)) in
     let whole : length (block_at t outer.i).reads ≡ inner.j =
-    rw reads-are (omega (arith, c.loop-j-test.false, inner.invariant.0, c.read_count-reads.ensures.0)) in
+    rw reads-are (omega (arith, c.loop-j-test.false, c.read_count-reads.ensures.0)) in
     let there : edge t outer.i + inner.j ≡ edge t (suc outer.i) = rw (edge-suc t outer.i inside, whole) refl in
     let at = entered (goal.at.loop-i-preserved c).Joined-edge_after-i in (
-      omega (arith, c.loop-i-test.true),
-      rw (add-one, ← there) inner.invariant.1,
-      next_edge t c.args.points.now c.args.lines.now (omega arith) c.requires.1 at.0 inner.count (accepted-file.few-blocks file c.requires.0) at.1 (inner.invariant.2 ∙ rw there refl),
+      rw (add-one, ← there) inner.invariant.0,
+      next_edge t c.args.points.now c.args.lines.now (omega arith) c.requires.1 at.0 inner.count (accepted-file.few-blocks file c.requires.0) at.1 (inner.invariant.1 ∙ rw there refl),
     )
 
 pub returns : goal.returns
@@ -179,4 +177,4 @@ returns c =
     let ps = c.args.points.now in
     let least : 0 < block_count t = omega (arith, c.block_count-blocks.ensures) in
     let end : l.i ≡ block_count t = omega (arith, c.block_count-blocks.ensures.0) in
-    record { loads = at-end t ps c.args.lines.now least c.requires.1 l.invariant.2 end; rest_stays = rest-stays t ps c.args.lines.now least c.requires.1 l.invariant.2 end }
+    record { loads = at-end t ps c.args.lines.now least c.requires.1 l.invariant.1 end; rest_stays = rest-stays t ps c.args.lines.now least c.requires.1 l.invariant.1 end }

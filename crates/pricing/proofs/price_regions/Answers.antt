@@ -34,7 +34,7 @@ edge c =
 -- a region starts after as many edges as there are regions before it
 few : (c : goal.After-edge_after-b) → c.loop-i.i < 64
 few c =
-    let edges = region-edges _ _ (omega (arith, c.block_count-n.ensures)) c.requires.1 c.loop-i.i c.loop-i-test.true in
+    let edges = region-edges _ _ (omega (arith, c.block_count-n.ensures)) c.requires.1 c.loop-i.i (omega arith) in
     omega (arith, edges.0, edges.1, edges.2, few-blocks c.args.file.now c.requires.0)
 
 -- the region's lines
@@ -42,7 +42,7 @@ counted : (c : goal.After-edge_after-b)
     → let args = c.args in
     get_or args.lines.now c.loop-i.i 0 ≡ region_lines (task_of args.file.now) c.loop-i.a c.edge_after-b.result
 counted c =
-    c.requires.2.loads c.loop-i.i c.loop-i-test.true ∙ rw (c.loop-i.invariant.1, edge c) refl
+    c.requires.2.loads c.loop-i.i (omega arith) ∙ rw (c.loop-i.invariant.1, edge c) refl
 
 small : (c : goal.After-edge_after-b)
     → get_or c.args.lines.now c.loop-i.i 0 ≤ 512
@@ -56,13 +56,13 @@ bounds-lines-i c = few (goal.at.bounds-lines-i c).After-edge_after-b
 
 pub weigh_between-region-requires : goal.weigh_between-region-requires
 weigh_between-region-requires c =
-    let edges = region-edges _ _ (omega (arith, c.block_count-n.ensures)) c.requires.1 c.loop-i.i c.loop-i-test.true in
+    let edges = region-edges _ _ (omega (arith, c.block_count-n.ensures)) c.requires.1 c.loop-i.i (omega arith) in
     (c.requires.0, omega (arith, edges.1, c.loop-i.invariant.1, edge (goal.at.weigh_between-region-requires c).After-edge_after-b), omega (arith, edges.2, edge (goal.at.weigh_between-region-requires c).After-edge_after-b), counted (goal.at.weigh_between-region-requires c).After-edge_after-b)
 
 pub returns-then-not-region : goal.returns-then-not-region
 returns-then-not-region c =
     let region = c.weigh_between-region in
-    let above = passed-above c.loop-i.invariant.0 c.loop-i-test.true
+    let above = passed-above c.loop-i.invariant.0 (omega arith)
     (rw (c.loop-i.invariant.1, edge (goal.at.returns-then-not-region c).After-edge_after-b) at (sym region.ensures.2 ∙ not-true c.weigh_between-region.result.fits c.if-not-region.true)) in
     refused-price _ _ (above-pricing _ _ c.requires.1 above)
 
@@ -86,7 +86,7 @@ loop-i-preserved c =
     let region = c.weigh_between-region in
     let args = c.args in
     let next : c.edge_after-b.result ≡ start_of (task_of args.file.now) args.points.now (c.loop-i.i + 1) = edge (goal.at.loop-i-preserved c).After-edge_after-b ∙ rw (add-one c.loop-i.i) refl in (
-      passed-more c.loop-i.invariant.0 c.loop-i-test.true _ region.result.cost
+      passed-more c.loop-i.invariant.0 (omega arith) _ region.result.cost
           (rw (c.loop-i.invariant.1, edge (goal.at.loop-i-preserved c).After-edge_after-b) at (sym region.ensures.2 ∙ not-false c.weigh_between-region.result.fits c.if-not-region.false))
           (counted (goal.at.loop-i-preserved c).After-edge_after-b ∙ rw (c.loop-i.invariant.1, edge (goal.at.loop-i-preserved c).After-edge_after-b) refl)
           (small (goal.at.loop-i-preserved c).After-edge_after-b)
@@ -97,5 +97,5 @@ loop-i-preserved c =
 
 pub returns : goal.returns
 returns c =
-    let end = passed-end c.loop-i.invariant.0 c.loop-i-test.false in
+    let end = passed-end c.loop-i.invariant.0 (omega arith) in
     accepted-price _ _ (accepted-pricing _ _ c.requires.1 end.0) end.1 end.2

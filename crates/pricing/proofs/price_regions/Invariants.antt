@@ -9,6 +9,3 @@ use Rattle.pricing.proofs.price_regions.Given as goal
 
 abbrev pub invariant-loop-i : goal.invariant-loop-i
 invariant-loop-i l = Passed (task_of l.file) l.points l.i l.total l.cost × (l.a ≡ start_of (task_of l.file) l.points l.i)
-
-abbrev pub decreases-loop-i : goal.decreases-loop-i
-decreases-loop-i l = length l.points + 1 - l.i

@@ -1,11 +1,7 @@
 -- `regions::run_between` meets its contract. The loop's invariant: the run of the blocks passed; at most 64 times of 32 bits fit.
-use Prim.Native.Nat.{◌-◌, ◌≤◌}
 use Rattle.taskfile.specs.File.{task_of}
 use Rattle.regions.specs.Measures.{RunBetween}
 use Rattle.regions.proofs.run_between.Given as goal
 
 abbrev pub invariant-loop-i : goal.invariant-loop-i
-invariant-loop-i l = (l.a ≤ l.i) × (l.i ≤ l.b) × RunBetween (task_of l.file) l.a l.i l.time l.limit
-
-abbrev pub decreases-loop-i : goal.decreases-loop-i
-decreases-loop-i l = l.b - l.i
+invariant-loop-i l = RunBetween (task_of l.file) l.a l.i l.run

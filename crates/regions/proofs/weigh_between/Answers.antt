@@ -9,7 +9,7 @@ use Rattle.regions.proofs.weigh_between.Goals as goal
 pub weigh-requires : goal.weigh-requires
 weigh-requires c =
     let file = c.args.file.now in (
-      omega (arith, c.run_between-run.ensures.small, c.requires.2, few-blocks file c.requires.0),
+      omega (arith, c.run_between.ensures.small, c.requires.2, few-blocks file c.requires.0),
       omega (arith, c.requires.3, lines-region (task_of file) c.args.a c.args.b),
     )
 
@@ -17,10 +17,10 @@ pub returns : goal.returns
 returns c =
     let file = c.args.file.now in
     let t = task_of file in
-    let run = c.run_between-run in
+    let run = c.run_between in
     let weighs = c.weigh.ensures in
-    let header_is = c.header-header.ensures.0 in
-    let counted : Counted t (record { from = c.args.a; to = c.args.b; lines = c.args.lines; time = run.result.time; limit = run.result.limit }) =
+    let header_is = c.header.ensures.0 in
+    let counted : Counted t (record { from = c.args.a; to = c.args.b; lines = c.args.lines; run = run.result }) =
     record {
       rising = c.requires.1;
       within = c.requires.2;

@@ -15,13 +15,12 @@ use Rattle.taskfile.proofs.Accepted as accepted-file
 use Rattle.cacheline.proofs.Below.{line-below}
 use Rattle.replaying.proofs.Steps.{at-start, read-skip, read_more, pass-edge, at-end}
 use Rattle.replaying.proofs.count_misses.Goals as goal
-use Rattle.replaying.proofs.count_misses.Goals.{in-None, in-Some, In-Some}
+use Rattle.replaying.proofs.count_misses.Goals.{in_default, in-Some, In-Some}
 
 pub loop-i-init : goal.loop-i-init
 loop-i-init c =
     let t = task_of c.args.file.now in
     let ps = c.args.points.now in (
-      omega arith,
       omega arith,
       omega arith,
       omega arith,
@@ -34,7 +33,7 @@ read_count-reads-requires c =
     (c.requires.0, omega arith, omega (arith, accepted-file.block-count c.args.file.now))
 
 pub loop-j-init : goal.loop-j-init
-loop-j-init c = (omega arith, omega arith, omega arith, rw add-zero c.loop-i.invariant.5)
+loop-j-init c = (omega arith, omega arith, rw add-zero c.loop-i.invariant.4)
 
 pub read-number-requires : goal.read-number-requires
 read-number-requires c =
@@ -85,20 +84,18 @@ loop-j-preserved c =
     let is = sym (line.ensures.0 t cache.ensures) in
     let next : edge t outer.i + (inner.j + 1) ≡ suc (edge t outer.i + inner.j) = omega arith in
     elim c.match-line_of.branch [
-      | in-None w ↦
+      | in_default w ↦
           rw (w.alone-is, w.preempted-is, w.held-is, w.since-is, next) (
-            omega (arith, taken),
+            omega (arith, inner.invariant.0),
             omega (arith, inner.invariant.1),
-            omega (arith, inner.invariant.2),
-            read-skip t ps number.result inside counted number_is outer.invariant.3 inner.invariant.3 (is ∙ w.in-None.is),
+            read-skip t ps number.result inside counted number_is outer.invariant.2 inner.invariant.2 (is ∙ w.in_default.is),
           )
       | in-Some w ↦
           let on = w.in-Some.c in
           rw (w.alone-is, w.preempted-is, w.held-is, w.since-is, next) (
-            omega (arith, taken),
-            omega (arith, inner.invariant.1, w.missed-alone.ensures.1),
-            omega (arith, inner.invariant.2, w.missed-preempted.ensures.1),
-            read_more t ps number.result inside counted number_is outer.invariant.3 inner.invariant.3 on (outer.i + 1) _ _ (line-below line.result on w.in-Some.is line.ensures.1)
+            omega (arith, inner.invariant.0, w.missed-alone.ensures.1),
+            omega (arith, inner.invariant.1, w.missed-preempted.ensures.1),
+            read_more t ps number.result inside counted number_is outer.invariant.2 inner.invariant.2 on (outer.i + 1) _ _ (line-below line.result on w.in-Some.is line.ensures.1)
                 (is ∙ w.in-Some.is) (add-one outer.i) w.missed-alone.ensures.0 (w.missed-preempted.ensures.0 ∙ rw (w.is_lost-lost.ensures, marks on) refl),
           )
     ]
@@ -115,8 +112,8 @@ loop-i-preserved c =
     let inside : outer.i < block_count t = omega arith in
     let there : edge t outer.i + inner.j ≡ edge t (suc outer.i) = rw (edge-suc t outer.i inside, done) refl in
     let next =
-    pass-edge t c.args.points.now outer.invariant.3 outer.invariant.4 c.pass-passed.result (rw add-one at c.pass-passed.ensures) inside (rw there at inner.invariant.3) in
-    (omega arith, omega arith, omega arith, rw add-one next.1, rw add-one next.2, rw add-one next.0)
+    pass-edge t c.args.points.now outer.invariant.2 outer.invariant.3 c.pass-passed.result (rw add-one at c.pass-passed.ensures) inside (rw there at inner.invariant.2) in
+    (omega arith, omega arith, rw add-one next.1, rw add-one next.2, rw add-one next.0)
 
 pub returns : goal.returns
 returns c =
@@ -125,5 +122,5 @@ returns c =
     let of = c.geometry_of-cache.ensures in
     let formed = none-lowest (right_point (block_count t)) 0 (steps 0 c.args.points.now) c.requires.1 in
     let both =
-    at-end t c.args.points.now l.invariant.3 l.invariant.4 (omega (arith, of.sound.some, of.count)) (omega (arith, of.sound.most, of.count)) formed (omega arith) l.invariant.5 in
+    at-end t c.args.points.now l.invariant.2 l.invariant.3 (omega (arith, of.sound.some, of.count)) (omega (arith, of.sound.most, of.count)) formed (omega arith) l.invariant.4 in
     rw (both.0, both.1) refl

@@ -7,17 +7,9 @@ use Rattle.replaying.proofs.count_misses.Given as goal
 
 abbrev pub invariant-loop-j : goal.invariant-loop-j
 invariant-loop-j l =
-    (l.j ≤ l.reads) × (l.alone ≤ l.i * 124 + l.j) × (l.preempted ≤ l.i * 124 + l.j) × Replayed (task_of l.file) l.points (edge (task_of l.file) l.i + l.j) l.passed l.held l.since l.alone l.preempted
-
-abbrev pub decreases-loop-j : goal.decreases-loop-j
-decreases-loop-j l =
-    l.reads - l.j
+    (l.alone ≤ l.i * 124 + l.j) × (l.preempted ≤ l.i * 124 + l.j) × Replayed (task_of l.file) l.points (edge (task_of l.file) l.i + l.j) l.passed l.held l.since l.alone l.preempted
 
 abbrev pub invariant-loop-i : goal.invariant-loop-i
 invariant-loop-i l =
-    (l.i ≤ l.blocks) × (l.alone ≤ l.i * 124) × (l.preempted ≤ l.i * 124) × (l.passed.last ≤ l.i) × PointsLeft (task_of l.file) l.points l.i l.passed.next ×
+    (l.alone ≤ l.i * 124) × (l.preempted ≤ l.i * 124) × (l.passed.last ≤ l.i) × PointsLeft (task_of l.file) l.points l.i l.passed.next ×
     Replayed (task_of l.file) l.points (edge (task_of l.file) l.i) l.passed l.held l.since l.alone l.preempted
-
-abbrev pub decreases-loop-i : goal.decreases-loop-i
-decreases-loop-i l =
-    l.blocks - l.i

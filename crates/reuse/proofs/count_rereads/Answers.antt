@@ -19,14 +19,14 @@ use Rattle.reuse.proofs.count_rereads.Goals.{then-whole, else-whole, After-slot_
 
 pub loop-i-init : goal.loop-i-init
 loop-i-init c =
-    (omega arith, rw c.requires.counts_value (counting-none (task_of c.args.file.now)))
+    rw c.requires.counts_value (counting-none (task_of c.args.file.now))
 
 pub read_count-reads-requires : goal.read_count-reads-requires
 read_count-reads-requires c =
     (c.requires.accepted.0, omega arith, omega (arith, accepted-file.block-count c.args.file.now))
 
 pub loop-j-init : goal.loop-j-init
-loop-j-init c = (omega arith, rw add-zero c.loop-i.invariant.1)
+loop-j-init c = rw add-zero c.loop-i.invariant
 
 pub read-number-requires : goal.read-number-requires
 read-number-requires c =
@@ -44,7 +44,7 @@ bounds-since-c c = omega (arith, c.slot_of-slot.ensures.1)
 -- the count is one of the array
 column : (c : goal.After-slot_of-slot)
     → 64 * c.loop-i.i + get_or c.loop-j.since c.slot_of-slot.result.line 0 < 4096
-column c = omega (arith, c.loop-j.invariant.1.recent c.slot_of-slot.result.line c.slot_of-slot.ensures.1)
+column c = omega (arith, c.loop-j.invariant.recent c.slot_of-slot.result.line c.slot_of-slot.ensures.1)
 
 pub overflow_cast-at : goal.overflow_cast-at
 overflow_cast-at c = record { fits = omega (arith, column (goal.at.overflow_cast-at c).After-slot_of-slot) }
@@ -67,8 +67,7 @@ overflow_add-counts c =
       fits =
           omega (
             arith,
-            count_small t outer.i _ c.slot_of-slot.result.line (omega arith) c.slot_of-slot.ensures.1 inner.invariant.1,
-            inner.invariant.0,
+            count_small t outer.i _ c.slot_of-slot.result.line (omega arith) c.slot_of-slot.ensures.1 inner.invariant,
             c.reread.ensures.1,
             c.read_count-reads.ensures.1,
           );
@@ -113,17 +112,15 @@ loop-j-preserved c =
     let of = slot.ensures.0 t c.requires.accepted.1 in
     let reread = c.reread in
     let more =
-    counting_more t outer.i inner.j number.result inside counted number_is inner.invariant.1 line reread.result cached slot.ensures.1 of.lies
+    counting_more t outer.i inner.j number.result inside counted number_is inner.invariant line reread.result cached slot.ensures.1 of.lies
     (accepted-file.few-blocks file c.requires.accepted.0) (reread.ensures.0 ∙ rw (c.requires.evicted_len.1 line) refl) reread.ensures.1 in
-    rw next (
-      omega (arith, taken),
-      elim c.if-whole.branch [
+    rw next
+      (elim c.if-whole.branch [
         | then-whole w ↦
             let on = all-cached t number.result slot.result of (sym (whole.ensures t c.requires.accepted.1) ∙ w.if-whole.true) in
             rw w.held-is (more (Held number.result) _ (rw on refl) c.if_cached.ensures)
-        | else-whole w ↦ rw w.held-is (more _ _ w.line_after.ensures c.if_cached.ensures)
-      ],
-    )
+        | else-whole w ↦ rw w.held-is (more _ _ w.if_cached-else-whole.ensures c.if_cached.ensures)
+      ])
 
 pub loop-i-preserved : goal.loop-i-preserved
 loop-i-preserved c =
@@ -134,7 +131,7 @@ loop-i-preserved c =
     let reads-are = accepted-file.reads_at file outer.i (omega (arith, accepted-file.block-count file)) in
     let whole : length (block_at t outer.i).reads ≡ inner.j = rw reads-are (omega arith) in
     let there : edge t outer.i + inner.j ≡ edge t (suc outer.i) = rw (edge-suc t outer.i (omega arith), whole) refl in
-    (omega arith, rw add-one (counting-block t outer.i (rw there at inner.invariant.1)))
+    rw add-one (counting-block t outer.i (rw there at inner.invariant))
 
 pub returns : goal.returns
 returns c =
@@ -143,15 +140,15 @@ returns c =
     let end : l.i ≡ block_count (task_of file) = omega arith in
     let most : block_count (task_of file) ≤ 64 = accepted-file.few-blocks file c.requires.accepted.0 in
     record {
-      long = l.invariant.1.long;
+      long = l.invariant.long;
       few =
           λ r h.
           omega (
             arith,
-            counting-few (task_of file) l.i end most l.invariant.1 r h,
+            counting-few (task_of file) l.i end most l.invariant r h,
             ap length (accepted-file.reads_at file r (omega (arith, accepted-file.block-count file))),
             accepted-file.length-reads file (r + 1),
             (accepted-file.accepted file c.requires.accepted.0).count_most (r + 1) (omega arith) (omega (arith, accepted-file.block-count file)),
           );
-      sums = counting-all (task_of file) l.i end most l.invariant.1;
+      sums = counting-all (task_of file) l.i end most l.invariant;
     }

@@ -8,14 +8,8 @@ use Rattle.reuse.proofs.count_rereads.Given as goal
 
 abbrev pub invariant-loop-j : goal.invariant-loop-j
 invariant-loop-j l =
-    (l.j ≤ l.reads) × Counting (task_of l.file) l.i (edge (task_of l.file) l.i + l.j) l.held l.since l.counts
-
-abbrev pub decreases-loop-j : goal.decreases-loop-j
-decreases-loop-j l = l.reads - l.j
+    Counting (task_of l.file) l.i (edge (task_of l.file) l.i + l.j) l.held l.since l.counts
 
 abbrev pub invariant-loop-i : goal.invariant-loop-i
 invariant-loop-i l =
-    (l.i ≤ l.blocks) × Counting (task_of l.file) l.i (edge (task_of l.file) l.i) l.held l.since l.counts
-
-abbrev pub decreases-loop-i : goal.decreases-loop-i
-decreases-loop-i l = l.blocks - l.i
+    Counting (task_of l.file) l.i (edge (task_of l.file) l.i) l.held l.since l.counts

@@ -15,11 +15,11 @@ pub loop-k-init : goal.loop-k-init
 unfolding reads_of
 loop-k-init c =
     let none : c.args.a - c.args.a ≡ 0 = omega arith in
-    (omega arith, omega arith, rw none (noted-none _ c.requires.read_len.0 c.requires.read_len.1 c.empty-lines.ensures))
+    rw none (noted-none _ c.requires.read_len.0 c.requires.read_len.1 c.empty-lines.ensures)
 
 pub first_lines_in-requires : goal.first_lines_in-requires
 first_lines_in-requires c =
-    let noted = c.loop-k.invariant.2 in record { read_len = (noted.long-read, noted.long-first); accepted = (c.requires.accepted.0, omega arith, omega (arith, c.requires.accepted.2, accepted-file.block-count c.args.file.now)); geometry_of = c.requires.accepted.3 }
+    let noted = c.loop-k.invariant in record { read_len = (noted.long-read, noted.long-first); accepted = (c.requires.accepted.0, omega arith, omega (arith, c.requires.accepted.2, accepted-file.block-count c.args.file.now)); geometry_of = c.requires.accepted.3 }
 
 pub loop-k-preserved : goal.loop-k-preserved
 loop-k-preserved c =
@@ -29,12 +29,12 @@ loop-k-preserved c =
     let inside : l.k < block_count t = omega (arith, c.requires.accepted.2) in
     let more : reads_of (take (l.k + 1 - c.args.a) (drop c.args.a t.blocks))
     ≡ reads_of (take (l.k - c.args.a) (drop c.args.a t.blocks)) ++ entry_reads file (l.k + 1) =
-    block_more t c.args.a l.k l.invariant.0 inside ∙
+    block_more t c.args.a l.k (omega arith) inside ∙
     rw (accepted-file.reads_at file l.k (omega (arith, accepted-file.block-count file))) refl in
-    (omega arith, omega arith, rw more (noted-append t _ _ c.union-lines.ensures l.invariant.2 c.first_lines_in.ensures))
+    rw more (noted-append t _ _ c.union-lines.ensures l.invariant c.first_lines_in.ensures)
 
 pub returns : goal.returns
 returns c =
     let l = c.loop-k in
     let end : l.k ≡ c.args.b = omega arith in
-    rw end at l.invariant.2
+    rw end at l.invariant

@@ -9,7 +9,4 @@ use Rattle.reuse.proofs.first_lines.Given as goal
 
 abbrev pub invariant-loop-k : goal.invariant-loop-k
 invariant-loop-k l =
-    (l.a ≤ l.k) × (l.k ≤ l.b) × Noted (task_of l.file) (reads_of (take (l.k - l.a) (drop l.a (task_of l.file).blocks))) l.initial.read l.initial.first l.read l.first (members l.lines)
-
-abbrev pub decreases-loop-k : goal.decreases-loop-k
-decreases-loop-k l = l.b - l.k
+    Noted (task_of l.file) (reads_of (take (l.k - l.a) (drop l.a (task_of l.file).blocks))) l.initial.read l.initial.first l.read l.first (members l.lines)

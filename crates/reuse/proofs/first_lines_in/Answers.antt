@@ -12,11 +12,11 @@ use Rattle.reuse.proofs.first_lines_in.Goals as goal
 
 pub loop-j-init : goal.loop-j-init
 loop-j-init c =
-    (omega arith, noted-none _ c.requires.read_len.0 c.requires.read_len.1 c.empty-lines.ensures)
+    noted-none _ c.requires.read_len.0 c.requires.read_len.1 c.empty-lines.ensures
 
 pub note-lines-requires : goal.note-lines-requires
 note-lines-requires c =
-    let noted = c.loop-j.invariant.1 in
+    let noted = c.loop-j.invariant in
     (noted.long-read, noted.long-first, c.line_of.ensures.1)
 
 pub loop-j-preserved : goal.loop-j-preserved
@@ -30,14 +30,12 @@ loop-j-preserved c =
     let taken = c.loop-j-test.true in
     let counted = c.read_count-reads.ensures in
     let more : take (l.j + 1) xs ≡ take l.j xs ++ (number.result ∷ []) =
-    rw add-one (take-suc xs l.j 0 (omega (arith, taken, counted))) ∙ ap (λ (x : ℕ). take l.j xs ++ (x ∷ [])) (sym number.ensures) in (
-      omega arith,
-      rw more
-          (noted-append t (take l.j xs) (number.result ∷ []) c.note-lines.ensures.by_index_3 l.invariant.1
-          (noted_one t number.result line.result (line.ensures.0 t c.requires.geometry_of) c.note-lines.ensures.read_len.0 c.note-lines.ensures.read_len.1 c.note-lines.ensures.by_index c.note-lines.ensures.by_index_2)),
-    )
+    rw add-one (take-suc xs l.j 0 (omega (arith, taken, counted))) ∙ ap (λ (x : ℕ). take l.j xs ++ (x ∷ [])) (sym number.ensures) in
+    rw more
+          (noted-append t (take l.j xs) (number.result ∷ []) c.note-lines.ensures.by_index_3 l.invariant
+          (noted_one t number.result line.result (line.ensures.0 t c.requires.geometry_of) c.note-lines.ensures.read_len.0 c.note-lines.ensures.read_len.1 c.note-lines.ensures.by_index c.note-lines.ensures.by_index_2))
 
 pub returns : goal.returns
 returns c =
     let l = c.loop-j in
-    rw (take_all l.j (entry_reads c.args.file.now c.args.k) (omega arith)) at l.invariant.1
+    rw (take_all l.j (entry_reads c.args.file.now c.args.k) (omega arith)) at l.invariant

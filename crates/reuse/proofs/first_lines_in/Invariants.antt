@@ -8,7 +8,4 @@ use Rattle.reuse.proofs.first_lines_in.Given as goal
 
 abbrev pub invariant-loop-j : goal.invariant-loop-j
 invariant-loop-j l =
-    (l.j ≤ l.reads) × Noted (task_of l.file) (take l.j (entry_reads l.file l.k)) l.initial.read l.initial.first l.read l.first (members l.lines)
-
-abbrev pub decreases-loop-j : goal.decreases-loop-j
-decreases-loop-j l = l.reads - l.j
+    Noted (task_of l.file) (take l.j (entry_reads l.file l.k)) l.initial.read l.initial.first l.read l.first (members l.lines)

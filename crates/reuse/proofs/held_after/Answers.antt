@@ -16,18 +16,18 @@ use Rattle.taskfile.specs.File.{task_of}
 use Rattle.taskfile.proofs.Accepted as accepted-file
 use Rattle.cacheline.proofs.Below.{line-below}
 use Rattle.reuse.proofs.held_after.Goals as goal
-use Rattle.reuse.proofs.held_after.Goals.{in-None, in-Some, In-Some}
+use Rattle.reuse.proofs.held_after.Goals.{in-Some, in_default, In-Some}
 
 pub loop-i-init : goal.loop-i-init
 unfolding reads_of
-loop-i-init c = (omega arith, refl, holds-none _ (λ d h. get_or-replicate 512 d Empty Empty h))
+loop-i-init c = (refl, holds-none _ (λ d h. get_or-replicate 512 d Empty Empty h))
 
 pub read_count-reads-requires : goal.read_count-reads-requires
 read_count-reads-requires c =
     (c.requires.0, omega arith, omega (arith, c.requires.1, accepted-file.block-count c.args.file.now))
 
 pub loop-j-init : goal.loop-j-init
-loop-j-init c = let l = c.loop-i in (omega arith, l.invariant.1, rw add-zero l.invariant.2)
+loop-j-init c = let l = c.loop-i in (l.invariant.0, rw add-zero l.invariant.1)
 
 pub read-number-requires : goal.read-number-requires
 read-number-requires c =
@@ -58,21 +58,19 @@ loop-j-preserved c =
     let is = sym (line.ensures.0 t c.requires.2) in
     let next : edge t outer.i + (inner.j + 1) ≡ suc (edge t outer.i + inner.j) = omega arith in
     elim c.match-line_of.branch [
-      | in-None w ↦
+      | in_default w ↦
           rw (w.held-is, next) (
-            omega arith,
-            inner.invariant.1,
-            holds_more t outer.i inner.j number.result inside counted number_is 0 false (lies-uncached t number.result (is ∙ w.in-None.is))
-                refl (λ d n. refl) inner.invariant.2,
+            inner.invariant.0,
+            holds_more t outer.i inner.j number.result inside counted number_is 0 false (lies-uncached t number.result (is ∙ w.in_default.is))
+                refl (λ d n. refl) inner.invariant.1,
           )
       | in-Some w ↦
           let on = w.in-Some.c in
           let low = line-below line.result on w.in-Some.is line.ensures.1 in
           rw (w.held-is, next) (
-            omega arith,
-            length-set inner.held on _ ∙ inner.invariant.1,
+            length-set inner.held on _ ∙ inner.invariant.0,
             holds_more t outer.i inner.j number.result inside counted number_is on true (lies-cached t number.result on (is ∙ w.in-Some.is))
-                (get_or-set_same inner.held on _ Empty (omega (arith, inner.invariant.1))) (λ d n. get_or-set_other inner.held on d _ Empty n) inner.invariant.2,
+                (get_or-set_same inner.held on _ Empty (omega (arith, inner.invariant.0))) (λ d n. get_or-set_other inner.held on d _ Empty n) inner.invariant.1,
           )
     ]
 
@@ -85,7 +83,7 @@ loop-i-preserved c =
     let whole : length (block_at (task_of file) outer.i).reads ≡ inner.j = rw reads-are (omega arith) in
     let there : edge (task_of file) (outer.i + 1) ≡ edge (task_of file) outer.i + inner.j =
     rw (add-one, edge-suc (task_of file) outer.i (omega (arith, c.requires.1)), whole) refl in
-    (omega arith, inner.invariant.1, rw there inner.invariant.2)
+    (inner.invariant.0, rw there inner.invariant.1)
 
 pub returns : goal.returns
 unfolding state_after
@@ -93,4 +91,4 @@ returns c =
     let t = task_of c.args.file.now in
     let l = c.loop-i in
     let done : l.i ≡ c.args.k = omega arith in
-    (l.invariant.1, λ d h. l.invariant.2 d h ∙ rw (done, take-edge t c.args.k) refl)
+    (l.invariant.0, λ d h. l.invariant.1 d h ∙ rw (done, take-edge t c.args.k) refl)

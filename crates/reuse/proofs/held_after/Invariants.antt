@@ -9,13 +9,7 @@ use Rattle.taskfile.specs.File.{task_of}
 use Rattle.reuse.proofs.held_after.Given as goal
 
 abbrev pub invariant-loop-j : goal.invariant-loop-j
-invariant-loop-j l = (l.j ≤ l.reads) × (length l.held ≡ 512) × Holds (task_of l.file) (edge (task_of l.file) l.i + l.j) (λ c. get_or l.held c Empty)
-
-abbrev pub decreases-loop-j : goal.decreases-loop-j
-decreases-loop-j l = l.reads - l.j
+invariant-loop-j l = (length l.held ≡ 512) × Holds (task_of l.file) (edge (task_of l.file) l.i + l.j) (λ c. get_or l.held c Empty)
 
 abbrev pub invariant-loop-i : goal.invariant-loop-i
-invariant-loop-i l = (l.i ≤ l.k) × (length l.held ≡ 512) × Holds (task_of l.file) (edge (task_of l.file) l.i) (λ c. get_or l.held c Empty)
-
-abbrev pub decreases-loop-i : goal.decreases-loop-i
-decreases-loop-i l = l.k - l.i
+invariant-loop-i l = (length l.held ≡ 512) × Holds (task_of l.file) (edge (task_of l.file) l.i) (λ c. get_or l.held c Empty)

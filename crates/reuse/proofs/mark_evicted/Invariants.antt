@@ -10,8 +10,4 @@ use Rattle.reuse.proofs.mark_evicted.Given as goal
 
 abbrev pub invariant-loop-k : goal.invariant-loop-k
 invariant-loop-k l =
-    (length l.marks ≡ 512) × (l.first ≤ l.k) × (l.k ≤ l.end) ×
-    ((c : ℕ) → c < 512 → get_or l.marks c false ≡ any_read (on_line (task_of l.file) c) (reads_between l.file l.first (l.k - l.first)))
-
-abbrev pub decreases-loop-k : goal.decreases-loop-k
-decreases-loop-k l = l.end - l.k
+    (length l.marks ≡ 512) × ((c : ℕ) → c < 512 → get_or l.marks c false ≡ any_read (on_line (task_of l.file) c) (reads_between l.file l.first (l.k - l.first)))

@@ -12,6 +12,7 @@ use Rattle.model.specs.Charges.{touches, first_touching}
 use Rattle.taskfile.specs.File.{counts, task_of, entry_reads}
 use Rattle.taskfile.proofs.Accepted as accepted-file
 use Rattle.reuse.specs.States.{mark_of}
+use Rattle.reuse.proofs.Marks.{marked-number}
 use Rattle.reuse.proofs.mark_first.Goals as goal
 
 -- one preempter more, before the others
@@ -34,17 +35,15 @@ overflow_add-start-in-loop-i c = omega (arith, (accepted-file.accepted c.args.fi
 pub overflow_cast-i : goal.overflow_cast-i
 overflow_cast-i c = omega (arith, (accepted-file.accepted c.args.file.now c.requires.1).preempters-most)
 
-pub mark_reads_by-requires : goal.mark_reads_by-requires
-mark_reads_by-requires c =
-    record {
-      marks_len = c.loop-i.invariant.1;
-      accepted = (
-        c.requires.1,
-        omega arith,
-        omega (arith, c.loop-i.invariant.0, accepted-file.block-count c.args.file.now),
-      );
-      geometry_of = c.requires.2;
-    }
+pub mark_reads-requires : goal.mark_reads-requires
+mark_reads-requires c =
+    (
+      omega arith,
+      (
+        c.loop-i.invariant.1,
+        ((c.requires.1, omega arith, omega (arith, c.loop-i.invariant.0, accepted-file.block-count c.args.file.now)), c.requires.2),
+      ),
+    )
 
 pub loop-i-preserved : goal.loop-i-preserved
 unfolding touches
@@ -56,10 +55,10 @@ loop-i-preserved c =
     let n = (counts file).preempters in
     let from : c.block_count-start.result + 1 + k ≡ 1 + (counts file).blocks + k = omega (arith, accepted-file.block-count file) in (
       omega (arith, l.invariant.0),
-      c.mark_reads_by.ensures.marks_len_2,
+      c.mark_reads.ensures.marks_len_2,
       λ d h.
           let reads = ap (λ (xs : List ℕ). any_read (on_line t d) xs) (accepted-file.preempter-reads-at file k (omega (arith, l.invariant.0))) in
-          c.mark_reads_by.ensures.marked_by d h ∙ ap₂ (λ (n x : ℕ). cond (any_read (on_line t d) (entry_reads file n)) k x) from (l.invariant.2 d h) ∙
+          marked-number l.marks c.mark_reads.new.marks d k _ (omega (arith, l.invariant.1)) (omega (arith, c.mark_reads.ensures.marks_len_2)) (c.mark_reads.ensures.marked_by d h) ∙ ap₂ (λ (n x : ℕ). cond (any_read (on_line t d) (entry_reads file n)) k x) from (l.invariant.2 d h) ∙
           one-before (λ i. not (touches t i d)) k l.i (n - l.i) (n - k) (any_read (on_line t d) (entry_reads file (1 + (counts file).blocks + k))) (omega arith)
           (omega (arith, l.invariant.0)) (ap not reads),
     )

@@ -14,6 +14,3 @@ abbrev pub invariant-loop-i : goal.invariant-loop-i
 invariant-loop-i l =
     (l.i ≤ (counts l.file).preempters) × (length l.marks ≡ 512) ×
     ((d : ℕ) → d < 512 → get_or l.marks d 0 ≡ mark_of (lowest_from (λ k. not (touches (task_of l.file) k d)) l.i ((counts l.file).preempters - l.i)))
-
-abbrev pub decreases-loop-i : goal.decreases-loop-i
-decreases-loop-i l = l.i

@@ -8,7 +8,4 @@ use Rattle.lineset.specs.Members.{members}
 use Rattle.reuse.proofs.marked_lines.Given as goal
 
 abbrev pub invariant-loop-c : goal.invariant-loop-c
-invariant-loop-c l = (l.c ≤ l.count) × ((d : ℕ) → members l.set d ≡ (ltb d l.c && get_or l.marks d false))
-
-abbrev pub decreases-loop-c : goal.decreases-loop-c
-decreases-loop-c l = l.count - l.c
+invariant-loop-c l = (d : ℕ) → members l.set d ≡ (ltb d l.c && get_or l.marks d false)

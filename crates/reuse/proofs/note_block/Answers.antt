@@ -33,7 +33,7 @@ noted_more t xs n readers₀ readers readers' j m mapping hj em el long readers-
 
 pub loop-j-init : goal.loop-j-init
 unfolding any_read
-loop-j-init c = (omega arith, (c.requires.readers_len, λ d h. rw and-false refl))
+loop-j-init c = (c.requires.readers_len, λ d h. rw and-false refl)
 
 pub overflow_cast-k : goal.overflow_cast-k
 overflow_cast-k c =
@@ -43,19 +43,17 @@ pub loop-j-preserved : goal.loop-j-preserved
 loop-j-preserved c =
     let l = c.loop-j in
     let line = c.line_of-mapping in
-    let number = c.read in (
-      omega arith,
+    let number = c.read in
       noted_more (task_of c.args.file.now) (entry_reads c.args.file.now c.args.k) c.args.k c.args.readers.now l.readers c.note_reader.new.readers l.j
           number.result line.result (omega arith) number.ensures (line.ensures.0 (task_of c.args.file.now) c.requires.geometry_of) c.note_reader.ensures.readers_len c.note_reader.ensures.first_by
-          l.invariant.1,
-    )
+          l.invariant
 
 pub returns : goal.returns
 returns c =
     let l = c.loop-j in record {
-      readers_len_2 = l.invariant.1.0;
+      readers_len_2 = l.invariant.0;
       first_by = λ d h.
-          l.invariant.1.1 d h ∙
+          l.invariant.1 d h ∙
           ap (λ (xs : List ℕ). cond (eqb (get_or c.args.readers.now d 0) 0 && any_read (on_line (task_of c.args.file.now) d) xs) c.args.k (get_or c.args.readers.now d 0))
           (take_all l.j (entry_reads c.args.file.now c.args.k) (omega arith));
     }

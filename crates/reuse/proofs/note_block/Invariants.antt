@@ -14,7 +14,4 @@ abbrev pub Noted : Task → List ℕ → ℕ → List ℕ → ℕ → List ℕ �
 Noted t xs n readers₀ j readers = (length readers ≡ 512) × FirstBy (λ d. any_read (on_line t d) (take j xs)) n readers₀ readers
 
 abbrev pub invariant-loop-j : goal.invariant-loop-j
-invariant-loop-j l = (l.j ≤ l.reads) × Noted (task_of l.file) (entry_reads l.file l.k) l.k l.initial.readers l.j l.readers
-
-abbrev pub decreases-loop-j : goal.decreases-loop-j
-decreases-loop-j l = l.reads - l.j
+invariant-loop-j l = Noted (task_of l.file) (entry_reads l.file l.k) l.k l.initial.readers l.j l.readers

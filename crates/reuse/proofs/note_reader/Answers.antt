@@ -32,9 +32,9 @@ bounds-readers-c c = below (goal.at.bounds-readers-c c).In-Some
 pub bounds-readers-c-in-Some : goal.bounds-readers-c-in-Some
 bounds-readers-c-in-Some c = below (goal.at.bounds-readers-c-in-Some c).In-Some
 
-pub returns-in-None : goal.returns-in-None
-returns-in-None c =
-    record { readers_len = c.requires.0; first_by = λ d h. rw (c.in-None.is, and-false) refl }
+pub returns-in_default : goal.returns-in_default
+returns-in_default c =
+    record { readers_len = c.requires.0; first_by = λ d h. rw (c.in_default.is, and-false) refl }
 
 pub returns-in-Some : goal.returns-in-Some
 returns-in-Some c =

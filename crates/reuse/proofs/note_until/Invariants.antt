@@ -6,6 +6,3 @@ use Rattle.reuse.proofs.note_until.Given as goal
 
 abbrev pub invariant-loop-i : goal.invariant-loop-i
 invariant-loop-i l = NotedTo (task_of l.file) l.b l.i l.initial.readers l.readers
-
-abbrev pub decreases-loop-i : goal.decreases-loop-i
-decreases-loop-i l = l.blocks - l.i

@@ -1,10 +1,11 @@
 -- `reuse::reread` meets its contract, by whether the line is of H and holds the number.
-use Prim.Native.Nat.{◌≤◌}
-use mathlib.Core.Path.{◌≡◌, refl}
+use Prim.Native.Nat.{ℕ, ◌≤◌}
+use mathlib.Core.Path.{◌≡◌, refl, ◌∙◌}
 use mathlib.Core.Bool.{Bool, true, false, ◌&&◌}
 use native.Mathlib.Omega.{arith}
 use mir.Val.{bool_byte}
 use Rattle.model.specs.Sets.{bit}
+use Rattle.reuse.proofs.SameLine.{same-line}
 use Rattle.reuse.proofs.reread.Goals as goal
 
 -- a bool as a byte
@@ -13,4 +14,6 @@ byte-is true = (refl, omega arith)
 byte-is false = (refl, omega arith)
 
 pub returns : goal.returns
-returns c = rw (← c.holds.ensures) (byte-is (c.args.evicted && c.holds.result))
+returns c =
+    let same = c.eq.ensures ∙ same-line c.args.line c.args.number in
+    rw (← same) (byte-is (c.args.evicted && c.eq.result))

@@ -11,6 +11,7 @@ use Rattle.model.specs.declared.Line.{Line}
 use Rattle.model.specs.declared.Line.TheVariants.{Empty, Held}
 use Rattle.model.proofs.LineStates.{never-empty}
 use Rattle.reuse.proofs.Below.{one_more}
+use Rattle.reuse.proofs.SameLine.{same-line}
 use Rattle.reuse.proofs.reread_lines.Goals as goal
 use Rattle.reuse.proofs.reread_lines.Invariants.{Same}
 
@@ -19,7 +20,7 @@ same_first true l n = refl
 same_first false l n = sym (never-empty l)
 
 pub loop-c-init : goal.loop-c-init
-loop-c-init c = (omega arith, λ d. c.empty-lines.ensures d ∙ rw (le-ltb d 0 (omega arith)) refl)
+loop-c-init c = λ d. c.empty-lines.ensures d ∙ rw (le-ltb d 0 (omega arith)) refl
 
 pub loop-c-preserved : goal.loop-c-preserved
 loop-c-preserved c =
@@ -28,15 +29,13 @@ loop-c-preserved c =
     let read = c.args.read.now in
     let first = c.args.first.now in
     let same : ℕ → Bool = Same c.args.held read first in
-    let here : (get_or read l.c false && c.holds.result) ≡ same l.c =
-    ap (λ (x : Bool). get_or read l.c false && x) c.holds.ensures ∙ same_first (get_or read l.c false) (get_or c.args.held l.c Empty) (get_or first l.c 0) in (
-      omega arith,
+    let here : (get_or read l.c false && c.eq.result) ≡ same l.c =
+    ap (λ (x : Bool). get_or read l.c false && x) (c.eq.ensures ∙ same-line (get_or c.args.held l.c Empty) (get_or first l.c 0)) ∙ same_first (get_or read l.c false) (get_or c.args.held l.c Empty) (get_or first l.c 0) in
       λ d.
-          c.with_marked-lines.ensures d ∙ ap (λ (x : Bool). x || eqb d l.c && (get_or read l.c false && c.holds.result)) (l.invariant.1 d) ∙
-          ap (λ (x : Bool). ltb d l.c && same d || eqb d l.c && x) here ∙ one_more same l.c d,
-    )
+          c.with_marked-lines.ensures d ∙ ap (λ (x : Bool). x || eqb d l.c && (get_or read l.c false && c.eq.result)) (l.invariant d) ∙
+          ap (λ (x : Bool). ltb d l.c && same d || eqb d l.c && x) here ∙ one_more same l.c d
 
 pub returns : goal.returns
 returns c =
     let end : c.loop-c.c ≡ c.args.count = omega arith in
-    λ d. c.loop-c.invariant.1 d ∙ rw end refl
+    λ d. c.loop-c.invariant d ∙ rw end refl

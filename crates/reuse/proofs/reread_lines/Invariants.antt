@@ -17,7 +17,4 @@ abbrev pub Same : List Line → List Bool → List ℕ → ℕ → Bool
 Same held read first c = same_block (get_or held c Empty) (first_in read first c)
 
 abbrev pub invariant-loop-c : goal.invariant-loop-c
-invariant-loop-c l = (l.c ≤ l.count) × ((d : ℕ) → members l.lines d ≡ (ltb d l.c && Same l.held l.read l.first d))
-
-abbrev pub decreases-loop-c : goal.decreases-loop-c
-decreases-loop-c l = l.count - l.c
+invariant-loop-c l = (d : ℕ) → members l.lines d ≡ (ltb d l.c && Same l.held l.read l.first d)

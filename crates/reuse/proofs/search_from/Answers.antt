@@ -18,22 +18,22 @@ block-next : (file : List ℕ) (i : ℕ) → i < block_count (task_of file) → 
 block-next file i h = reads-from (task_of file) i h ∙ rw (accepted-file.reads_at file i (omega (arith, accepted-file.block-count file)), ← add-one i) refl
 
 pub loop-i-init : goal.loop-i-init
-loop-i-init c = (omega arith, omega arith, left-all _ _)
+loop-i-init c = (omega arith, left-all _ _)
 
 pub search_block-found-requires : goal.search_block-found-requires
 search_block-found-requires c =
     record { accepted = (c.requires.0, omega arith, omega (arith, accepted-file.block-count c.args.file.now)); geometry_of = c.requires.2 }
 
-pub returns-in_default : goal.returns-in_default
+pub returns-in-Some : goal.returns-in-Some
 unfolding next_read reads_looked_at
-returns-in_default c =
+returns-in-Some c =
     let t = task_of c.args.file.now in
     let l = c.loop-i in
     let block = c.search_block-found in
     let there =
-    left-found (on_line t c.args.c) l.invariant.2 (entry_reads c.args.file.now (l.i + 1)) (reads_of (drop (l.i + 1) t.blocks))
-    (block-next c.args.file.now l.i (omega arith)) c.in_default.field-0 (sym c.search_block-found.ensures.next_value ∙ c.in_default.is) in
-    record { next_value = c.in_default.is ∙ sym there.0; looked_value = omega (arith, there.1, c.search_block-found.ensures.looked_value.0) }
+    left-found (on_line t c.args.c) l.invariant.1 (entry_reads c.args.file.now (l.i + 1)) (reads_of (drop (l.i + 1) t.blocks))
+    (block-next c.args.file.now l.i (omega arith)) c.in-Some.number (sym c.search_block-found.ensures.next_value ∙ c.in-Some.is) in
+    record { next_value = sym there.0; looked_value = omega (arith, there.1, c.search_block-found.ensures.looked_value.0) }
 
 pub loop-i-preserved : goal.loop-i-preserved
 loop-i-preserved c =
@@ -41,10 +41,9 @@ loop-i-preserved c =
     let l = c.loop-i in
     let block = c.search_block-found in (
       omega arith,
-      omega arith,
       rw c.search_block-found.ensures.looked_value.0
-          (left_passed (on_line t c.args.c) l.invariant.2 (entry_reads c.args.file.now (l.i + 1)) (reads_of (drop (l.i + 1) t.blocks))
-          (block-next c.args.file.now l.i (omega arith)) (sym c.search_block-found.ensures.next_value ∙ c.in-None.is)),
+          (left_passed (on_line t c.args.c) l.invariant.1 (entry_reads c.args.file.now (l.i + 1)) (reads_of (drop (l.i + 1) t.blocks))
+          (block-next c.args.file.now l.i (omega arith)) (sym c.search_block-found.ensures.next_value ∙ c.in_default.is)),
     )
 
 pub returns : goal.returns
@@ -52,5 +51,5 @@ unfolding next_read reads_looked_at reads_of
 returns c =
     let t = task_of c.args.file.now in
     let l = c.loop-i in
-    let done = left-none (on_line t c.args.c) (ap reads_of (drop_of_length-le t.blocks {i = l.i} (omega arith))) l.invariant.2 in
+    let done = left-none (on_line t c.args.c) (ap reads_of (drop_of_length-le t.blocks {i = l.i} (omega arith))) l.invariant.1 in
     record { next_value = sym done.0; looked_value = sym done.1 }

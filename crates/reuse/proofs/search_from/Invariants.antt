@@ -8,8 +8,5 @@ use Rattle.reuse.proofs.search_from.Given as goal
 
 abbrev pub invariant-loop-i : goal.invariant-loop-i
 invariant-loop-i l =
-    (l.i ≤ l.blocks) × (l.looked ≤ 124 * l.i)
+    (l.looked ≤ 124 * l.i)
     × Left (on_line (task_of l.file) l.c) (reads_of (drop l.k (task_of l.file).blocks)) l.looked (reads_of (drop l.i (task_of l.file).blocks))
-
-abbrev pub decreases-loop-i : goal.decreases-loop-i
-decreases-loop-i l = l.blocks - l.i

@@ -7,8 +7,5 @@ use Rattle.reuse.proofs.sum_row.Given as goal
 
 abbrev pub invariant-loop-a : goal.invariant-loop-a
 invariant-loop-a l =
-    (length l.counts ≡ 4096) × (l.a ≤ suc l.i) × (l.sum ≡ row_sum l.initial.counts l.i l.a) × ((d : ℕ) → d < l.a → get_or l.counts (64 * l.i + d) 0 ≡ row_sum l.initial.counts l.i d) ×
+    (length l.counts ≡ 4096) × (l.sum ≡ row_sum l.initial.counts l.i l.a) × ((d : ℕ) → d < l.a → get_or l.counts (64 * l.i + d) 0 ≡ row_sum l.initial.counts l.i d) ×
     ((e : ℕ) → ((d : ℕ) → d < l.a → e ≡ 64 * l.i + d → ⊥) → get_or l.counts e 0 ≡ get_or l.initial.counts e 0)
-
-abbrev pub decreases-loop-a : goal.decreases-loop-a
-decreases-loop-a l = suc l.i - l.a

@@ -7,8 +7,5 @@ use Rattle.reuse.proofs.sum_rows.Given as goal
 
 abbrev pub invariant-loop-i : goal.invariant-loop-i
 invariant-loop-i l =
-    (length l.counts ≡ 4096) × (l.i ≤ l.rows) × ((a r : ℕ) → a ≤ r → r < l.i → get_or l.counts (64 * r + a) 0 ≡ row_sum l.initial.counts r a) ×
+    (length l.counts ≡ 4096) × ((a r : ℕ) → a ≤ r → r < l.i → get_or l.counts (64 * r + a) 0 ≡ row_sum l.initial.counts r a) ×
     ((a r : ℕ) → a < 64 → l.i ≤ r → get_or l.counts (64 * r + a) 0 ≡ get_or l.initial.counts (64 * r + a) 0)
-
-abbrev pub decreases-loop-i : goal.decreases-loop-i
-decreases-loop-i l = l.rows - l.i

@@ -14,8 +14,5 @@ use Rattle.reuse.proofs.useful_lines.Given as goal
 
 abbrev pub invariant-loop-c : goal.invariant-loop-c
 invariant-loop-c l =
-    (l.c ≤ l.count) × (l.k ≤ l.b) × (l.b ≤ block_count (task_of l.file)) × (length l.readers ≡ 512) × FirstReaders (task_of l.file) l.k l.b l.readers
+    (l.k ≤ l.b) × (l.b ≤ block_count (task_of l.file)) × (length l.readers ≡ 512) × FirstReaders (task_of l.file) l.k l.b l.readers
     × ((d : ℕ) → members l.lines d ≡ (ltb d l.c && useful (task_of l.file) l.k d))
-
-abbrev pub decreases-loop-c : goal.decreases-loop-c
-decreases-loop-c l = l.count - l.c

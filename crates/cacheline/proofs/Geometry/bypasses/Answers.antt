@@ -14,7 +14,7 @@ returns-then-self-eq0 c =
     let args = c.args in
     λ t of.
     rw (← of.first, ← of.bypassing)
-    (sym (le-ltb ((args.number + 4294967296 - args.self.first) % 4294967296) args.self.bypassing (omega arith)) ∙
+    (sym (le-ltb ((args.number + (4294967296 - args.self.first)) % 4294967296) args.self.bypassing (omega arith)) ∙
     behind-first args.self.first args.self.bypassing args.number of.ends c.ranges.number.fits)
 
 pub returns : goal.returns

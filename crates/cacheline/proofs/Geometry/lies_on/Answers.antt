@@ -11,8 +11,8 @@ returns-then-c-remainder c =
     let there = c.remainder.ensures.0 ∙ ap (λ (s : ℕ). c.args.number % s) of.count in
     rw (both-tests t c.args.c c.args.number, eq-eqb _ _ (c.if-c-remainder.true ∙ there), c.bypasses.ensures t of) refl
 
-pub returns : goal.returns
-returns c =
+pub returns-else-c-remainder : goal.returns-else-c-remainder
+returns-else-c-remainder c =
     λ t of.
     let there = c.remainder.ensures.0 ∙ ap (λ (s : ℕ). c.args.number % s) of.count in
-    rw (both-tests t c.args.c c.args.number, ne_eqb _ _ (λ e. c.if-c-remainder.false (e ∙ sym there))) refl
+    rw (both-tests t c.args.c c.args.number, ne_eqb _ _ c.if-c-remainder.false, ne_eqb _ _ (λ e. c.if-c-remainder.false (e ∙ sym there))) refl

@@ -1,10 +1,8 @@
 -- `regions::CountedRegion::at` meets its contract: no blocks have no time and load no line, and Q counts for them.
 use Prim.Native.Nat.{zero-le}
-use mathlib.Core.Path.{refl, sym, subst}
+use mathlib.Core.Path.{refl, sym}
 use native.Mathlib.Nat.{le_refl}
 use Rattle.model.proofs.Regions.{region-none}
-use Rattle.model.specs.declared.Header.{Header}
-use Rattle.regions.specs.Measures.{RunBetween}
 use Rattle.regions.proofs.Runs.{run_none}
 use Rattle.regions.proofs.CountedRegion.at.Goals as goal
 
@@ -16,7 +14,7 @@ returns c =
         within = h;
         lines = sym (region-none t a);
         few = zero-le;
-        run = subst (λ (header : Header). RunBetween t a a 0 header.limit) (sym e) (run_none t a);
+        run = rw c.none.ensures (run_none t a c.args.header e);
       },
       refl,
       refl,

@@ -42,14 +42,14 @@ overflow_add-new c = omega (arith, below (goal.at.overflow_add-new c).Start, c.r
 pub bounds-counts-to : goal.bounds-counts-to
 bounds-counts-to c = omega (arith, below (goal.at.bounds-counts-to c).Start, c.requires.1.rising)
 
-pub overflow_cast-lines : goal.overflow_cast-lines
-overflow_cast-lines c = omega (arith, few (goal.at.overflow_cast-lines c).Start)
+pub overflow_cast-result : goal.overflow_cast-result
+overflow_cast-result c = omega (arith, few (goal.at.overflow_cast-result c).Start)
 
-pub overflow_add-lines : goal.overflow_add-lines
-overflow_add-lines c = omega (arith, few (goal.at.overflow_add-lines c).Start)
+pub overflow_add-result : goal.overflow_add-result
+overflow_add-result c = omega (arith, few (goal.at.overflow_add-result c).Start)
 
-pub overflow_add-time : goal.overflow_add-time
-overflow_add-time c = omega (arith, below (goal.at.overflow_add-time c).Start, c.requires.1.run.small)
+pub longer-run-requires : goal.longer-run-requires
+longer-run-requires c = omega (arith, below (goal.at.longer-run-requires c).Start, c.requires.1.run.small)
 
 pub returns : goal.returns
 returns c =
@@ -61,9 +61,9 @@ returns c =
         within = omega (arith, c.requires.2);
         lines = lines_are (goal.at.returns c).Start;
         few = few (goal.at.returns c).Start;
-        run = run_more (task_of c.args.file.now) s.from s.to s.time c.time.result s.limit c.limit_with-limit.result
-            c.armed-armed.result c.header.result counted.rising counted.run (rw back at c.time.ensures) (omega arith)
-            (rw back at c.armed-armed.ensures) c.header.ensures.0 c.limit_with-limit.ensures;
+        run = run_more (task_of c.args.file.now) s.from s.to c.time.result c.armed.result c.header.result s.run c.longer-run.result
+            counted.rising counted.run (rw back at c.time.ensures) (omega arith) (rw back at c.armed.ensures) c.header.ensures.0
+            c.longer-run.ensures.0 c.longer-run.ensures.1;
       },
       refl,
       refl,

@@ -39,11 +39,11 @@ module _ (t : Task) (header : Header) (e : header ≡ t.header) (r : CountedRegi
       ap₂ ◌+◌ (ap₂ ◌*◌ (ap (λ (h : Header). h.reload) e) counted.lines)
       (at ∙ ap (λ (h : Header). cond (eqb r.from 0) 0 h.switch) e)
 
-  lasts : r.time + (header.reload * r.lines + switch) ≡ region_length t r.from r.to
+  lasts : r.run.time + (header.reload * r.lines + switch) ≡ region_length t r.from r.to
   unfolding region_length
   lasts = ap₂ ◌+◌ counted.run.time-is costs
 
-  fits : leb (r.time + (header.reload * r.lines + switch)) r.limit ≡ region_fits t r.from r.to
+  fits : leb (r.run.time + (header.reload * r.lines + switch)) r.run.limit ≡ region_fits t r.from r.to
   unfolding region_fits
   fits =
       ap₂ leb lasts counted.run.limit_is ∙

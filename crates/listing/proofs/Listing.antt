@@ -229,9 +229,9 @@ unfolding plan_for
 lowest-is-planned file listed ls h p answer =
     let t = task_of file in
     let all = lists-all file listed ls h in
-    let planned : Planned t accept p = answer.planned (is-accepted file listed) in
-    let best = (planned.best refl).least-cost in
-    let cost-is : p.cost ≡ cost t (chosen p) = ap (λ (q : Plan). q.cost) (planned.follows refl) in (
+    let planned : Planned t (Ok p) = answer.planned (is-accepted file listed) in
+    let best = (planned.best p refl).least-cost in
+    let cost-is : p.cost ≡ cost t (chosen p) = ap (λ (q : Plan). q.cost) (planned.follows p refl) in (
       (entry_of_list t (chosen p), all.every (chosen p) (best.well-formed, best.fits), sym cost-is),
       λ l m.
           let r = all.only l m in
@@ -239,12 +239,12 @@ lowest-is-planned file listed ls h p answer =
     )
 
 pub empty-is-refused : EmptyIsRefused
-empty-is-refused file listed ls h v p answer =
+empty-is-refused file listed ls h r answer =
     let t = task_of file in
     let all = lists-all file listed ls h in
-    let planned : Planned t v p = answer.planned (is-accepted file listed) in (
+    let planned : Planned t r = answer.planned (is-accepted file listed) in (
       λ e. planned.exactly (λ ps w f. Memᴰ.not-nil (rw e at (all.every ps (w, f)))),
-      λ e. none ls (λ l m. let r = all.only l m in planned.none-fits e r.0 r.1.0 r.1.1),
+      λ e. none ls (λ l m. let q = all.only l m in planned.none-fits e q.0 q.1.0 q.1.1),
     )
   where
     none : (ls : List FittingList) → ((l : FittingList) → Memᴰ l ls → ⊥) → ls ≡ []

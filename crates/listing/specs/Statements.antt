@@ -72,14 +72,14 @@ ListsAll = (file : List ℕ) → list_verdict file ≡ accept → (ls : List Fit
 abbrev pub LowestIsPlanned : Type 0
 LowestIsPlanned =
     (file : List ℕ) → list_verdict file ≡ accept → (ls : List FittingList) → Listed (next_of file) 0 ls
-    → (p : Plan) → PlanAnswer file accept p
+    → (p : Plan) → PlanAnswer file (Ok p)
     → ((l : FittingList) × Memᴰ l ls × (l.cost ≡ p.cost)) × ((l : FittingList) → Memᴰ l ls → p.cost ≤ l.cost)
 
 -- and it is empty exactly when planning answers 6
 abbrev pub EmptyIsRefused : Type 0
 EmptyIsRefused =
     (file : List ℕ) → list_verdict file ≡ accept → (ls : List FittingList) → Listed (next_of file) 0 ls
-    → (v : Verdict) (p : Plan) → PlanAnswer file v p → (ls ≡ []) ↔ (v ≡ Err NoPlacement)
+    → (r : Result Plan Refusal) → PlanAnswer file r → (ls ≡ []) ↔ (r ≡ Err NoPlacement)
 
 -- document 02's worked case: File Seven at Q 40 has the lists 6 and 7, of cost 20
 abbrev pub SevenListed : Type 0

@@ -1,6 +1,7 @@
 -- Each call answers alike on both files: both are accepted, and what else an answer is made of is the same of their tasks.
 -- Assumes nothing.
-use Rattle.std.specs.Prelude.{Err}
+use Rattle.model.specs.declared.Refusal.{Refusal}
+use Rattle.std.specs.Prelude.{Err, Result}
 use Prim.Native.Nat.{ℕ}
 use mathlib.Core.Path.{◌≡◌, sym, ◌∙◌, fun_ext}
 use mathlib.Core.Logic.{◌⊎◌, inl, inr}
@@ -42,15 +43,14 @@ module _ (t u : Task) (a : SeenAlike t u) where
   none-back : NoPlacementFits u → NoPlacementFits t
   none-back none = rw (a.count, a.region-fits) none
 
-  planned-alike : (v : Verdict) (p : Plan) → Planned t v p → Planned u v p
-  planned-alike v p known =
+  planned-alike : (r : Result Plan Refusal) → Planned t r → Planned u r
+  planned-alike r known =
       record {
         answers = known.answers;
-        best = λ e. first_alike _ (known.best e);
-        follows = λ e. known.follows e ∙ plan-for-alike _;
+        best = λ p e. first_alike _ (known.best p e);
+        follows = λ p e. known.follows p e ∙ plan-for-alike _;
         none-fits = λ e. none_alike (known.none-fits e);
         exactly = λ none. known.exactly (none-back none);
-        empty = known.empty;
       }
 
 -- of two files
@@ -112,7 +112,7 @@ module _ (file other : List ℕ) (s : SameLines file other) where
 
   block-plan-alike : block_plan file ≡ block_plan other
   unfolding block_plan
-  block-plan-alike = fun_ext (λ block. rw (block-verdict-alike, plan-for-alike _ _ tasks))
+  block-plan-alike = fun_ext (λ block. rw (plan-for-alike _ _ tasks))
 
   replay-verdict-alike : replay_verdict file ≡ replay_verdict other
   unfolding replay_verdict
@@ -156,14 +156,14 @@ pub price-call-alike : PriceCallAlike
 price-call-alike = (returned-alike, left-alike)
 
 pub plan-alike : PlanAlike
-plan-alike file other s v p answer =
+plan-alike file other s r answer =
     record {
       refused = λ x e. absurd (never_both (sym s.other-accepted ∙ e));
-      planned = λ e. planned-alike _ _ (tasks file other s) v p (answer.planned s.accepted);
+      planned = λ e. planned-alike _ _ (tasks file other s) r (answer.planned s.accepted);
     }
 
 pub plans-equal : PlansEqual
-plans-equal file other s v w p q a b = one_answer other v w p q (plan-alike file other s v p a) b
+plans-equal file other s r q a b = one_answer other r q (plan-alike file other s r a) b
 
 pub plan-call-alike : PlanCallAlike
 plan-call-alike file other s block r left call =

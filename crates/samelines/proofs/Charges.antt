@@ -1,6 +1,6 @@
 -- The charges of both files are equal: a line's first preempter is found from the lines that each touches and from M, and whether a line is of H
 -- from its first preempter. Assumes nothing.
-use Rattle.std.specs.Prelude.{None, Option, Some}
+use Rattle.std.specs.Prelude.{None, Ok, Option, Some}
 use Prim.Native.Nat.{ℕ}
 use mathlib.Core.Path.{◌≡◌, refl, sym, ap, ◌∙◌, fun_ext}
 use mathlib.Core.Bool.{Bool, true, false, not}
@@ -12,6 +12,7 @@ use Rattle.model.specs.Lines.{evicted}
 use Rattle.model.specs.Charges.{touches, first_touching, charged_to, region_charge, charge, charges}
 use Rattle.model.proofs.Charges.{FirstOf, first_of}
 use Rattle.model.proofs.Seen.{SeenAlike}
+use Rattle.model.proofs.Verdicts.{ok-same}
 use Rattle.taskfile.specs.File.{Counts, task_of}
 use Rattle.taskfile.proofs.Accepted.{preempter-count}
 use Rattle.planner.specs.Calls.{price_charges, plan_charges}
@@ -74,6 +75,6 @@ price-charges-alike file other s = fun_ext (λ ps. rw (price-alike.0 file other 
 
 pub plan-charges-alike : PlanChargesAlike
 unfolding plan_charges
-plan-charges-alike file other s v w p q a b =
-    let same = plans-equal file other (each-together file other s) v w p q a b in
-    rw (same.0, same.1, charges-alike file other s)
+plan-charges-alike file other s p q a b =
+    let same = ok-same (plans-equal file other (each-together file other s) (Ok p) (Ok q) a b) in
+    rw (same, charges-alike file other s)

@@ -2,7 +2,8 @@
 -- pricing, planning and replay, from C too, answer alike on two files that differ in their preempters
 -- alone, refusals and places included; charges do where each preempter's own lines are the same (item 10).
 -- The left sides are what the calls' contracts cite. Assumes nothing.
-use Rattle.std.specs.Prelude.{ℕ, ◌≡◌, List, length}
+use Rattle.model.specs.declared.Refusal.{Refusal}
+use Rattle.std.specs.Prelude.{ℕ, ◌≡◌, List, length, Result, Ok}
 use Rattle.model.specs.Task.{Preempter, with_preempters}
 use Rattle.model.specs.Lines.{evicted}
 use Rattle.model.specs.declared.Plan.{Plan}
@@ -48,12 +49,12 @@ PriceCallAlike = Alike price_returned × Alike price_left
 
 -- planning: what is right for the one is right for the other
 abbrev pub PlanAlike : Type 0
-PlanAlike = (file other : List ℕ) → SameLines file other → (v : Verdict) (p : Plan) → PlanAnswer file v p → PlanAnswer other v p
+PlanAlike = (file other : List ℕ) → SameLines file other → (r : Result Plan Refusal) → PlanAnswer file r → PlanAnswer other r
 
 -- so the two answers are equal (document 02, item 1)
 abbrev pub PlansEqual : Type 0
 PlansEqual =
-    (file other : List ℕ) → SameLines file other → (v w : Verdict) (p q : Plan) → PlanAnswer file v p → PlanAnswer other w q → (v ≡ w) × (p ≡ q)
+    (file other : List ℕ) → SameLines file other → (r s : Result Plan Refusal) → PlanAnswer file r → PlanAnswer other s → r ≡ s
 
 -- planning from C: what may be returned and left for the one may be for the other
 abbrev pub PlanCallAlike : Type 0
@@ -84,8 +85,8 @@ PriceChargesAlike = (file other : List ℕ) → SameEach file other → price_ch
 -- and those of planning
 abbrev pub PlanChargesAlike : Type 0
 PlanChargesAlike =
-    (file other : List ℕ) → SameEach file other → (v w : Verdict) (p q : Plan) → PlanAnswer file v p → PlanAnswer other w q
-    → plan_charges file v p ≡ plan_charges other w q
+    (file other : List ℕ) → SameEach file other → (p q : Plan) → PlanAnswer file (Ok p) → PlanAnswer other (Ok q)
+    → plan_charges file p ≡ plan_charges other q
 
 -- it is not enough that the preempters together touch the same lines: two files and a list whose charges differ
 pub record ChargesApart : Type 0 where

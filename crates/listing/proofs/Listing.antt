@@ -1,6 +1,6 @@
 -- The listing of a file is the entries, one after the other, of the numbers whose lists fit: by induction on how many numbers are left. So whatever
 -- is said of its members is said of numbers, and numbers and well-formed lists determine each other. Assumes nothing.
-use Rattle.std.specs.Prelude.{None, Option, Some}
+use Rattle.std.specs.Prelude.{None, Option, Some, Ok}
 use Rattle.model.specs.Answers.{accept}
 use Prim.Native.Nat.{ℕ, zero, suc, ◌+◌, ◌-◌, ◌^◌, ◌≤◌, ◌<◌}
 use mathlib.Core.Path.{◌≡◌, refl, sym, ap, ap₂, ◌∙◌}

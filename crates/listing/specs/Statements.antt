@@ -1,5 +1,6 @@
 -- What is shown of numbers, of the call and of its listing beside the contract (document 02, item 12). Assumes nothing.
-use Rattle.std.specs.Prelude.{ℕ, suc, ◌-◌, ◌^◌, ◌≤◌, ◌<◌, ◌≡◌, true, ◌↔◌, length, get_or, Err, None, Option, Some}
+use Rattle.model.specs.declared.Refusal.{Refusal}
+use Rattle.std.specs.Prelude.{ℕ, suc, ◌-◌, ◌^◌, ◌≤◌, ◌<◌, ◌≡◌, true, ◌↔◌, length, get_or, Err, None, Option, Some, Ok, Result}
 use mathlib.Core.List.{List, [], ◌∷◌, map, Memᴰ}
 use Rattle.model.specs.Task.{Task, block_count}
 use Rattle.model.specs.Lists.{well_formed}

@@ -8,7 +8,7 @@ use mathlib.Core.Logic.{◌⊎◌, inl, inr}
 use mathlib.Core.List.{List}
 use Rattle.model.specs.Task.{Task}
 use Rattle.model.specs.Regions.{FirstBest, NoPlacementFits}
-use Rattle.model.specs.Answers.{Verdict, pricing}
+use Rattle.model.specs.Answers.{pricing}
 use Rattle.model.specs.Planning.{plan_for, Planned}
 use Rattle.model.specs.declared.Plan.{Plan}
 use Rattle.model.specs.declared.Refusal.TheVariants.{NoPlacement}

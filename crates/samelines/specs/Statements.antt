@@ -7,7 +7,7 @@ use Rattle.std.specs.Prelude.{ℕ, ◌≡◌, List, length, Result, Ok}
 use Rattle.model.specs.Task.{Preempter, with_preempters}
 use Rattle.model.specs.Lines.{evicted}
 use Rattle.model.specs.declared.Plan.{Plan}
-use Rattle.model.specs.Answers.{accept, Verdict}
+use Rattle.model.specs.Answers.{accept}
 use Rattle.block.specs.Bytes.{Each}
 use Rattle.taskfile.specs.File.{task_of, file_of, IsAccepted, EntryWithin}
 use Rattle.planner.specs.Calls.{edge_verdict, useful_words, next_read_of, looked_of, region_verdict, loaded_words, length_of, price_verdict, price_lines, price_cost, price_charges, block_verdict, block_place, block_plan, PlanAnswer, plan_charges}

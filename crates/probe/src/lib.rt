@@ -5,7 +5,9 @@
 #![tactic(auto)]
 
 ghost use Rattle.std.specs.Prelude.{[], ◌∷◌, ◌++◌, ◌≡◌, ◌*◌, ◌≤◌, length, get_or};
-ghost use Rattle.model.specs.Answers.{verdict_number, verdict_place};
+ghost use Rattle.std.specs.Option.{option_map};
+ghost use Rattle.std.specs.Result.{result_unwrap_or};
+ghost use Rattle.model.specs.Answers.{accept, verdict_number, verdict_place};
 ghost use Rattle.block.specs.Bytes.{les};
 ghost use Rattle.planner.specs.Calls.{edge_verdict, useful_words, next_read_of, looked_of, region_verdict, loaded_words, length_of, price_verdict, price_lines, price_cost, price_charges};
 ghost use Rattle.replaying.specs.Calls.{replay_verdict, misses_alone_of, misses_with_of};
@@ -16,10 +18,12 @@ ghost use Rattle.showing.specs.Calls.{show_answer, show_output};
 ghost use Rattle.assembling.specs.Calls.{assemble_answer, assemble_output};
 ghost use Rattle.listing.specs.Calls.{list_verdict, next_of, next_points, in_array};
 ghost use Rattle.demand.specs.Calls.{answer as answerTo};
-ghost use Rattle.probe.specs.Calls.{probed, left, next_numbers, PlanLeft, settings_of, list_numbers, deadlines_numbers, DeadlinesLeft};
+ghost use Rattle.probe.specs.Calls.{probed, left, verdict_of, next_numbers, PlanLeft, settings_of, list_numbers, points_in, deadlines_numbers, DeadlinesLeft};
 
-use demand::{Answer, Deadlines, TaskRecord};
+use demand::TaskRecord;
 use lineset::LineSet;
+use listing::NextList;
+use model::Refusal;
 use tracing::Settings;
 
 // The useful lines at edge k, in 64 bytes.
@@ -29,10 +33,10 @@ pub extern "C" fn probe_useful(file: &[u8], k: usize, out: &mut [u8], place: &mu
     ensures place_after { place.new ≡ verdict_place (probed 64 (edge_verdict file.now k) out.old) }
     ensures out_after { out.new ≡ left 64 (edge_verdict file.now k) (useful_words file.now k) out.old }
 {
-    let found = planner::useful(file, k);
-    let verdict = found.verdict;
-    let words = words_of(found.lines);
-    leave(verdict, &words, out, place)
+    match planner::useful(file, k) {
+        Ok(lines) => leave(&lines.words, out, place),
+        Err(refusal) => refuse(refusal, 64, out, place),
+    }
 }
 
 // The next read of a line after block k, in 24 bytes: 1 and its number or two zeros, and how many reads were looked at.
@@ -48,11 +52,10 @@ pub extern "C" fn probe_next_read(
     ensures place_after { place.new ≡ verdict_place (probed 24 (edge_verdict file.now k) out.old) }
     ensures out_after { out.new ≡ left 24 (edge_verdict file.now k) (next_numbers (next_read_of file.now line k) (looked_of file.now line k)) out.old }
 {
-    let found = planner::next_read(file, line, k);
-    let verdict = found.verdict;
-    let next = found.next;
-    let numbers = next_numbers(next, found.looked);
-    leave(verdict, &numbers, out, place)
+    match planner::next_read(file, line, k) {
+        Ok(found) => leave(&next_numbers(found.next, found.looked), out, place),
+        Err(refusal) => refuse(refusal, 24, out, place),
+    }
 }
 
 // The loaded lines of a region and its length, in 72 bytes.
@@ -68,11 +71,10 @@ pub extern "C" fn probe_region(
     ensures place_after { place.new ≡ verdict_place (probed 72 (region_verdict file.now a b) out.old) }
     ensures out_after { out.new ≡ left 72 (region_verdict file.now a b) (loaded_words file.now a b ++ (length_of file.now a b ∷ [])) out.old }
 {
-    let found = planner::region(file, a, b);
-    let verdict = found.verdict;
-    let words = words_of(found.loaded);
-    let numbers = region_numbers(words, found.length);
-    leave(verdict, &numbers, out, place)
+    match planner::region(file, a, b) {
+        Ok(found) => leave(&region_numbers(found.loaded, found.length), out, place),
+        Err(refusal) => refuse(refusal, 72, out, place),
+    }
 }
 
 // The lines, the cost and the 32 charges of a list of points, in 272 bytes.
@@ -82,11 +84,14 @@ pub extern "C" fn probe_price(file: &[u8], points: &[u16], out: &mut [u8], place
     ensures place_after { place.new ≡ verdict_place (probed 272 (price_verdict file.now points.now) out.old) }
     ensures out_after { out.new ≡ left 272 (price_verdict file.now points.now) (price_lines file.now points.now ∷ price_cost file.now points.now ∷ price_charges file.now points.now) out.old }
 {
-    let found = planner::price(file, points);
-    let verdict = found.verdict;
-    let charges = found.charges;
-    let numbers = charge_numbers(found.lines, found.cost, charges);
-    leave(verdict, &numbers, out, place)
+    match planner::price(file, points) {
+        Ok(price) => leave(
+            &charge_numbers(price.lines, price.cost, price.charges),
+            out,
+            place,
+        ),
+        Err(refusal) => refuse(refusal, 272, out, place),
+    }
 }
 
 // The same of the plan.
@@ -94,12 +99,17 @@ pub extern "C" fn probe_price(file: &[u8], points: &[u16], out: &mut [u8], place
 pub extern "C" fn probe_plan(file: &[u8], out: &mut [u8], place: &mut usize) -> u32
     ensures { PlanLeft file.now out.old result place.new out.new }
 {
-    let found = planner::plan(file);
-    let verdict = found.verdict;
-    let plan = found.plan;
-    let charges = found.charges;
-    let numbers = charge_numbers(plan.lines as u64, plan.cost, charges);
-    leave(verdict, &numbers, out, place)
+    match planner::plan(file) {
+        Ok(answer) => {
+            let plan = answer.plan;
+            leave(
+                &charge_numbers(plan.lines as u64, plan.cost, answer.charges),
+                out,
+                place,
+            )
+        }
+        Err(refusal) => refuse(refusal, 272, out, place),
+    }
 }
 
 // The misses of the file's reads, alone and with the points, in 16 bytes.
@@ -114,10 +124,10 @@ pub extern "C" fn probe_replay(
     ensures place_after { place.new ≡ verdict_place (probed 16 (replay_verdict file.now points.now) out.old) }
     ensures out_after { out.new ≡ left 16 (replay_verdict file.now points.now) (misses_alone_of file.now points.now ∷ misses_with_of file.now points.now ∷ []) out.old }
 {
-    let found = replaying::replay(file, points);
-    let verdict = found.verdict;
-    let numbers = [found.alone as u64, found.preempted as u64];
-    leave(verdict, &numbers, out, place)
+    match replaying::replay(file, points) {
+        Ok(misses) => leave(&[misses.alone as u64, misses.preempted as u64], out, place),
+        Err(refusal) => refuse(refusal, 16, out, place),
+    }
 }
 
 // The task file of a seed.
@@ -148,10 +158,16 @@ pub extern "C" fn probe_join(first: &[u8], second: &[u8], out: &mut [u8], place:
     ensures place_after { place.new ≡ join_place first.now second.now out.old }
     ensures out_after { out.new ≡ join_left first.now second.now out.old }
 {
-    let joined = joining::join(first, second, out);
-    let verdict = joined.verdict;
-    *place = joined.place;
-    answers::verdict_number(verdict)
+    match joining::join(first, second, out) {
+        Ok(()) => {
+            *place = 0;
+            0
+        }
+        Err(refused) => {
+            *place = refused.place;
+            refused.refusal.number()
+        }
+    }
 }
 
 // The task file of a trace, and its length.
@@ -169,9 +185,9 @@ pub extern "C" fn probe_trace(
     length: &mut usize,
     place: &mut usize,
 ) -> u32
-    ensures value { result ≡ verdict_number (trace_answer (settings_of size group ticks lines limit reload id) text.now out.old).verdict }
-    ensures place_after { place.new ≡ verdict_place (trace_answer (settings_of size group ticks lines limit reload id) text.now out.old).verdict }
-    ensures length_after { length.new ≡ (trace_answer (settings_of size group ticks lines limit reload id) text.now out.old).length }
+    ensures value { result ≡ verdict_number (verdict_of (trace_answer (settings_of size group ticks lines limit reload id) text.now out.old)) }
+    ensures place_after { place.new ≡ verdict_place (verdict_of (trace_answer (settings_of size group ticks lines limit reload id) text.now out.old)) }
+    ensures length_after { length.new ≡ result_unwrap_or (trace_answer (settings_of size group ticks lines limit reload id) text.now out.old) 0 }
     ensures out_after { out.new ≡ trace_output (settings_of size group ticks lines limit reload id) text.now out.old }
 {
     let settings = Settings {
@@ -183,11 +199,7 @@ pub extern "C" fn probe_trace(
         reload,
         id,
     };
-    let traced = tracing::trace(text, settings, out);
-    let verdict = traced.verdict;
-    *length = traced.length;
-    *place = answers::verdict_place(verdict);
-    answers::verdict_number(verdict)
+    leave_length(tracing::trace(text, settings, out), length, place)
 }
 
 // The text of a task file, and its length.
@@ -198,16 +210,12 @@ pub extern "C" fn probe_show(
     length: &mut usize,
     place: &mut usize,
 ) -> u32
-    ensures value { result ≡ verdict_number (show_answer file.now out.old).verdict }
-    ensures place_after { place.new ≡ verdict_place (show_answer file.now out.old).verdict }
-    ensures length_after { length.new ≡ (show_answer file.now out.old).length }
+    ensures value { result ≡ verdict_number (verdict_of (show_answer file.now out.old)) }
+    ensures place_after { place.new ≡ verdict_place (verdict_of (show_answer file.now out.old)) }
+    ensures length_after { length.new ≡ result_unwrap_or (show_answer file.now out.old) 0 }
     ensures out_after { out.new ≡ show_output file.now out.old }
 {
-    let shown = showing::show(file, out);
-    let verdict = shown.verdict;
-    *length = shown.length;
-    *place = answers::verdict_place(verdict);
-    answers::verdict_number(verdict)
+    leave_length(showing::show(file, out), length, place)
 }
 
 // The task file of a text, and its length.
@@ -218,16 +226,12 @@ pub extern "C" fn probe_assemble(
     length: &mut usize,
     place: &mut usize,
 ) -> u32
-    ensures value { result ≡ verdict_number (assemble_answer text.now out.old).verdict }
-    ensures place_after { place.new ≡ verdict_place (assemble_answer text.now out.old).verdict }
-    ensures length_after { length.new ≡ (assemble_answer text.now out.old).length }
+    ensures value { result ≡ verdict_number (verdict_of (assemble_answer text.now out.old)) }
+    ensures place_after { place.new ≡ verdict_place (verdict_of (assemble_answer text.now out.old)) }
+    ensures length_after { length.new ≡ result_unwrap_or (assemble_answer text.now out.old) 0 }
     ensures out_after { out.new ≡ assemble_output text.now out.old }
 {
-    let made = assembling::assemble(text, out);
-    let verdict = made.verdict;
-    *length = made.length;
-    *place = answers::verdict_place(verdict);
-    answers::verdict_number(verdict)
+    leave_length(assembling::assemble(text, out), length, place)
 }
 
 // The next fitting list from a start on, in 48 bytes: 1, its number, its lines and its cost or four zeros, how many points it has, and its point i, which is 0
@@ -244,27 +248,25 @@ pub extern "C" fn probe_next_list(
     ensures place_after { place.new ≡ verdict_place (probed 48 (list_verdict file.now) out.old) }
     ensures out_after { out.new ≡ left 48 (list_verdict file.now) (list_numbers (next_of file.now start) (length (next_points file.now start)) (get_or (in_array (next_points file.now start)) i 0)) out.old }
 {
-    let next = listing::next_list(file, start);
-    let verdict = next.verdict;
-    let found = next.found;
-    let points = next.points;
-    let numbers = list_numbers(found, next.count, point_at(points, i));
-    leave(verdict, &numbers, out, place)
+    match listing::next_list(file, start) {
+        Ok(next) => leave(&list_numbers(next, i), out, place),
+        Err(refusal) => refuse(refusal, 48, out, place),
+    }
 }
 
-// The numbers of the next fitting list.
-fn list_numbers(found: Option<FittingList>, count: usize, point: u16) -> [u64; 6]
-    ensures { result ≡ list_numbers found count point }
+// The numbers of the next fitting list, and its point i.
+fn list_numbers(next: Option<NextList>, i: usize) -> [u64; 6]
+    ensures { result ≡ list_numbers (option_map (λ found. found.list) next) (points_in next).count (get_or (points_in next).points i 0) }
 {
-    match found {
-        None => [0, 0, 0, 0, count as u64, point as u64],
-        Some(list) => [
+    match next {
+        None => [0; 6],
+        Some(found) => [
             1,
-            list.number,
-            list.lines as u64,
-            list.cost,
-            count as u64,
-            point as u64,
+            found.list.number,
+            found.list.lines as u64,
+            found.list.cost,
+            found.points.count as u64,
+            point_at(found.points.points, i) as u64,
         ],
     }
 }
@@ -286,26 +288,19 @@ pub extern "C" fn probe_deadlines(
 ) -> u32
     ensures { DeadlinesLeft (answerTo tasks.now horizon) out.old result place.new out.new }
 {
-    leave_deadlines(demand::test_deadlines(tasks, horizon), out, place)
-}
-
-// Leaves what a test of deadlines answers.
-fn leave_deadlines(answer: Answer, out: &mut [u8], place: &mut usize) -> u32
-    ensures { DeadlinesLeft answer out.old result place.new out.new }
-{
-    let verdict = answer.verdict;
-    let deadlines = answer.deadlines;
-    let numbers = deadlines_numbers(deadlines);
-    leave(verdict, &numbers, out, place)
+    match demand::test_deadlines(tasks, horizon) {
+        Ok(missed) => leave(&deadlines_numbers(missed), out, place),
+        Err(refusal) => refuse(refusal, 16, out, place),
+    }
 }
 
 // The numbers of a test of deadlines.
-fn deadlines_numbers(deadlines: Deadlines) -> [u64; 2]
-    ensures { result ≡ deadlines_numbers deadlines }
+fn deadlines_numbers(missed: Option<u32>) -> [u64; 2]
+    ensures { result ≡ deadlines_numbers missed }
 {
-    match deadlines {
-        Deadlines::Met => [0, 0],
-        Deadlines::Missed(t) => [1, t as u64],
+    match missed {
+        None => [0, 0],
+        Some(t) => [1, t as u64],
     }
 }
 
@@ -319,17 +314,11 @@ fn next_numbers(next: Option<u32>, looked: usize) -> [u64; 3]
     }
 }
 
-// The words of a set.
-fn words_of(lines: LineSet) -> [u64; 8]
-    ensures { result ≡ lines.words }
-{
-    lines.words
-}
-
 // The numbers of a region: the words of its loaded lines, and its length.
-fn region_numbers(words: [u64; 8], length: u64) -> [u64; 9]
-    ensures { result ≡ words ++ (length ∷ []) }
+fn region_numbers(loaded: LineSet, length: u64) -> [u64; 9]
+    ensures { result ≡ loaded.words ++ (length ∷ []) }
 {
+    let words = loaded.words;
     [
         words[0], words[1], words[2], words[3], words[4], words[5], words[6], words[7], length,
     ]
@@ -342,30 +331,59 @@ fn charge_numbers(lines: u64, cost: u64, charges: [u32; 32]) -> [u64; 34]
     let mut numbers = [0u64; 34];
     numbers[0] = lines;
     numbers[1] = cost;
-    let mut k = 0;
-    while k < 32 {
+    for k in 0..32 {
         numbers[k + 2] = charges[k] as u64;
-        k += 1;
     }
     numbers
 }
 
-// Leaves numbers in a buffer of their size where the verdict accepts; returns the number of the refusal, and leaves its place.
-fn leave(verdict: Result<(), Refusal>, numbers: &[u64], out: &mut [u8], place: &mut usize) -> u32
+// Leaves numbers in a buffer of their size; returns the number of a refusal, 9 for another size, and leaves its place.
+fn leave(numbers: &[u64], out: &mut [u8], place: &mut usize) -> u32
     requires { length numbers.now ≤ 34 }
-    ensures value { result ≡ verdict_number (probed (8 * length numbers.now) verdict out.old) }
-    ensures place_after { place.new ≡ verdict_place (probed (8 * length numbers.now) verdict out.old) }
-    ensures out_after { out.new ≡ left (8 * length numbers.now) verdict numbers.now out.old }
+    ensures value { result ≡ verdict_number (probed (8 * length numbers.now) accept out.old) }
+    ensures place_after { place.new ≡ verdict_place (probed (8 * length numbers.now) accept out.old) }
+    ensures out_after { out.new ≡ left (8 * length numbers.now) accept numbers.now out.old }
 {
-    let output = answers::check_output(8 * numbers.len(), out.len());
-    let answer = answers::earlier(output, verdict);
-    *place = answers::verdict_place(answer);
-    let number = answers::verdict_number(answer);
-    match answer {
-        Ok(()) => put_numbers(numbers, out),
-        Err(_) => {}
+    match answers::check_output(8 * numbers.len(), out.len()) {
+        Ok(()) => {
+            put_numbers(numbers, out);
+            *place = 0;
+            0
+        }
+        Err(refusal) => {
+            *place = refusal.place();
+            refusal.number()
+        }
     }
-    number
+}
+
+// Returns the number of a refusal and leaves its place; 9 comes first, for a buffer of another size.
+fn refuse(refusal: Refusal, size: usize, out: &[u8], place: &mut usize) -> u32
+    ensures value { result ≡ verdict_number (probed size (Err refusal) out.now) }
+    ensures place_after { place.new ≡ verdict_place (probed size (Err refusal) out.now) }
+{
+    let answer = answers::check_output(size, out.len()).and(Err(refusal));
+    *place = answers::verdict_place(answer);
+    answers::verdict_number(answer)
+}
+
+// Leaves the length of what a call made, or 0 with the number and the place of its refusal.
+fn leave_length(made: Result<usize, Refusal>, length: &mut usize, place: &mut usize) -> u32
+    ensures value { result ≡ verdict_number (verdict_of made) }
+    ensures place_after { place.new ≡ verdict_place (verdict_of made) }
+    ensures length_after { length.new ≡ result_unwrap_or made 0 }
+{
+    *length = made.unwrap_or(0);
+    match made {
+        Ok(_) => {
+            *place = 0;
+            0
+        }
+        Err(refusal) => {
+            *place = refusal.place();
+            refusal.number()
+        }
+    }
 }
 
 // Stores numbers in a buffer of their size.
@@ -373,9 +391,7 @@ fn put_numbers(numbers: &[u64], out: &mut [u8])
     requires { (length numbers.now ≤ 34) × (length out.old ≡ 8 * length numbers.now) }
     ensures { out.new ≡ les 8 numbers.now }
 {
-    let mut i = 0;
-    while i < numbers.len() {
-        block::put_u64(out, 8 * i, numbers[i]);
-        i += 1;
+    for (i, number) in numbers.iter().enumerate() {
+        block::put_u64(out, 8 * i, *number);
     }
 }

@@ -1,7 +1,12 @@
--- `probe::probe_join` meets its contract: it returns and leaves what `join` answers.
+-- `probe::probe_join` meets its contract: an accepted join has place 0.
+use mathlib.Core.Path.{sym, ◌∙◌}
+use Rattle.answers.proofs.Places.{placed-ok}
+use Rattle.joining.specs.Calls.{join_place}
+use Rattle.probe.proofs.Left.{no-place}
 use Rattle.probe.proofs.probe_join.Goals as goal
 
-pub returns : goal.returns
-returns c =
-    let joined = c.join-joined.ensures in
-    record { value = rw joined.verdict_value at c.verdict_number.ensures; place_after = joined.place_value; out_after = joined.out_after }
+pub returns-in-Ok-clause-place_after : goal.returns-in-Ok-clause-place_after
+unfolding join_place
+returns-in-Ok-clause-place_after c =
+    let joined = placed-ok _ _ _ _ (sym c.join.ensures.value ∙ c.in-Ok.is) in
+    rw (joined.0, no-place)

@@ -1,12 +1,8 @@
--- `probe::probe_next_read` meets its contract: what the planner answers is left, three numbers.
-use Prim.Native.Nat.{◌*◌}
-use mathlib.Core.Path.{◌≡◌}
-use native.Mathlib.Omega.{arith}
-use lib.ListN.{length}
+-- `probe::probe_next_read` meets its contract: what the call answers is left, and a refusal leaves the buffer as it was.
+use mathlib.Core.Path.{sym, ◌∙◌}
+use Rattle.model.proofs.Verdicts.{answered-err}
+use Rattle.probe.proofs.Left.{left-refused}
 use Rattle.probe.proofs.probe_next_read.Goals as goal
 
-pub returns : goal.returns
-returns c =
-    let answers = c.next_read-found.ensures in
-    let size : 8 * length c.next_numbers-numbers.result ≡ 24 = omega arith in
-    rw (size, c.next_numbers-numbers.ensures, c.next_read-found.ensures.verdict_value, c.next_read-found.ensures.next_value, c.next_read-found.ensures.looked_value) at c.leave.ensures
+pub returns-in-Err-clause-out_after : goal.returns-in-Err-clause-out_after
+returns-in-Err-clause-out_after c = let refused = answered-err _ _ _ (sym c.next_read.ensures ∙ c.in-Err.is) in rw (refused, left-refused)

@@ -1,12 +1,8 @@
--- `probe::probe_price` meets its contract: what the planner answers is left, lines, cost and charges.
-use Prim.Native.Nat.{◌*◌}
-use mathlib.Core.Path.{◌≡◌}
-use native.Mathlib.Omega.{arith}
-use lib.ListN.{length}
+-- `probe::probe_price` meets its contract: what the call answers is left, and a refusal leaves the buffer as it was.
+use mathlib.Core.Path.{sym, ◌∙◌}
+use Rattle.model.proofs.Verdicts.{answered-err}
+use Rattle.probe.proofs.Left.{left-refused}
 use Rattle.probe.proofs.probe_price.Goals as goal
 
-pub returns : goal.returns
-returns c =
-    let answers = c.price-found.ensures in
-    let size : 8 * length c.charge_numbers-numbers.result ≡ 272 = omega arith in
-    rw (size, c.charge_numbers-numbers.ensures, c.price-found.ensures.verdict_value, c.price-found.ensures.lines_value, c.price-found.ensures.cost_value, c.price-found.ensures.charges_value) at c.leave.ensures
+pub returns-in-Err-clause-out_after : goal.returns-in-Err-clause-out_after
+returns-in-Err-clause-out_after c = let refused = answered-err _ _ _ (sym c.price.ensures ∙ c.in-Err.is) in rw (refused, left-refused)

@@ -1,12 +1,8 @@
--- `probe::probe_region` meets its contract: what the planner answers is left, eight words and the length.
-use Prim.Native.Nat.{◌*◌}
-use mathlib.Core.Path.{◌≡◌}
-use native.Mathlib.Omega.{arith}
-use lib.ListN.{length}
+-- `probe::probe_region` meets its contract: what the call answers is left, and a refusal leaves the buffer as it was.
+use mathlib.Core.Path.{sym, ◌∙◌}
+use Rattle.model.proofs.Verdicts.{answered-err}
+use Rattle.probe.proofs.Left.{left-refused}
 use Rattle.probe.proofs.probe_region.Goals as goal
 
-pub returns : goal.returns
-returns c =
-    let answers = c.region-found.ensures in
-    let size : 8 * length c.region_numbers-numbers.result ≡ 72 = omega arith in
-    rw (size, c.region_numbers-numbers.ensures, c.words_of-words.ensures, c.region-found.ensures.verdict_value, c.region-found.ensures.words_value, c.region-found.ensures.length_value) at c.leave.ensures
+pub returns-in-Err-clause-out_after : goal.returns-in-Err-clause-out_after
+returns-in-Err-clause-out_after c = let refused = answered-err _ _ _ (sym c.region.ensures ∙ c.in-Err.is) in rw (refused, left-refused)

@@ -1,12 +1,8 @@
--- `probe::probe_useful` meets its contract: what the planner answers is left, eight words.
-use Prim.Native.Nat.{◌*◌}
-use mathlib.Core.Path.{◌≡◌}
-use native.Mathlib.Omega.{arith}
-use lib.ListN.{length}
+-- `probe::probe_useful` meets its contract: what the call answers is left, and a refusal leaves the buffer as it was.
+use mathlib.Core.Path.{sym, ◌∙◌}
+use Rattle.model.proofs.Verdicts.{answered-err}
+use Rattle.probe.proofs.Left.{left-refused}
 use Rattle.probe.proofs.probe_useful.Goals as goal
 
-pub returns : goal.returns
-returns c =
-    let answers = c.useful-found.ensures in
-    let size : 8 * length c.words_of-words.result ≡ 64 = omega arith in
-    rw (size, c.words_of-words.ensures, c.useful-found.ensures.verdict_value, c.useful-found.ensures.words_value) at c.leave.ensures
+pub returns-in-Err-clause-out_after : goal.returns-in-Err-clause-out_after
+returns-in-Err-clause-out_after c = let refused = answered-err _ _ _ (sym c.useful.ensures ∙ c.in-Err.is) in rw (refused, left-refused)

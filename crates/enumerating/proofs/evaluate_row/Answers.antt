@@ -1,6 +1,6 @@
 -- `enumerating::evaluate_row` meets its contract. The loop's invariant: the region starts at edge
 -- a, and the table holds the regions up to its end.
-use Prim.Native.Nat.{suc, ◌+◌, ◌*◌, ◌<◌}
+use Prim.Native.Nat.{suc, ◌+◌, ◌*◌}
 use mathlib.Core.Path.{◌≡◌, ◌∙◌}
 use native.Mathlib.Omega.{arith}
 use Rattle.taskfile.specs.File.{task_of}

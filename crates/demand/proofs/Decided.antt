@@ -8,7 +8,7 @@ use native.Mathlib.Omega.{arith}
 use borrow.Author.Tests.{leb-true, leb-false, le-leb, lt-leb}
 use Rattle.model.proofs.Lowest.{lowest-nowhere, nowhere-lowest, lowest-at, lowest-found, lowest-within}
 use Rattle.demand.specs.Demand.{total, meets_at, least_deadline, deadlines_of}
-use Rattle.demand.specs.Statements.{MeetsAll, MetExactly, MissedFirst}
+use Rattle.demand.specs.Statements.{MetExactly, MissedFirst}
 use Rattle.demand.specs.declared.TaskRecord.{TaskRecord}
 
 meets : (τs : List TaskRecord) (t : ℕ) → total τs t ≤ t → meets_at τs t ≡ true

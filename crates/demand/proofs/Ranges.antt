@@ -1,19 +1,16 @@
 -- What a right set says of its numbers: how many tasks there are, and the range of each field. Assumes nothing.
-use Prim.Native.Nat.{ℕ, zero, suc, ◌+◌, ◌≤◌, ◌<◌}
+use Prim.Native.Nat.{ℕ, zero, suc, ◌≤◌, ◌<◌}
 use mathlib.Core.Path.{◌≡◌, refl}
 use mathlib.Core.Bool.{true, false, ◌&&◌, and-eq-true_iff, and-false}
 use mathlib.Core.Logic.{◌⊎◌, inl, inr}
 use mathlib.Core.List.{List, [], ◌∷◌}
-use native.Mathlib.Numerals.{add-one}
 use native.Mathlib.Omega.{arith}
 use Rattle.std.specs.List.{list_all}
 use lib.Dec.{leb}
-use lib.ListN.{length, drop}
-use lib.Seq.{drop-cons, drop-length}
+use lib.ListN.{length}
 use borrow.Author.Tests.{leb-true, le-leb, lt-leb}
 use Rattle.demand.specs.Demand.{most_ticks}
 use Rattle.demand.specs.Calls.{most_tasks, in_range, right_task, right_tasks, right_set}
-use Rattle.demand.specs.Loading.{no_task}
 use Rattle.demand.specs.Lanes.{lane}
 use Rattle.demand.specs.declared.TaskRecord.{TaskRecord}
 

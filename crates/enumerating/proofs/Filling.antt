@@ -13,8 +13,9 @@ use lib.ListN.{length, get_or, set, replicate, length-set}
 use lib.Seq.{get_or-set_same, get_or-set_other}
 use borrow.Author.Tests.{lt-ltb, le-ltb, le-leb, ltb-true, leb-true}
 use Rattle.model.specs.Task.{Task, block_count}
-use Rattle.enumerating.specs.Table.{no_region, region_in, entry_at, Holds, TableBefore}
-use Rattle.enumerating.specs.declared.Region.{Region}
+use Rattle.model.specs.Regions.{region_lines, region_fits, region_cost}
+use Rattle.enumerating.specs.Table.{entry_at, Holds, TableBefore}
+use Rattle.enumerating.specs.declared.Table.{Table}
 
 module _ {A : Type 0} (z : A) (f : ℕ → ℕ → A) (n : ℕ) (few : n ≤ 16) where
   -- the place of a region has its entry
@@ -71,29 +72,37 @@ module _ {A : Type 0} (z : A) (f : ℕ → ℕ → A) (n : ℕ) (few : n ≤ 16)
             (λ o. rw (lt-ltb i (17 * a + b) (omega arith), lt-ltb i (suc (17 * a + b)) (omega arith)))
 
 -- an entry of a list, after one is set, is one of the list or the one that is set
-each_more : (P : Region → Type 0) (l : List Region) (i : ℕ) (v : Region) → i < length l → P v → ((j : ℕ) → P (get_or l j no_region))
-    → (j : ℕ) → P (get_or (set l i v) j no_region)
+each_more : (P : ℕ → Type 0) (l : List ℕ) (i v : ℕ) → i < length l → P v → ((j : ℕ) → P (get_or l j 0)) → (j : ℕ) → P (get_or (set l i v) j 0)
 each_more P l i v h p q j =
-    by_cases (ℕ_discrete j i) (λ e. rw (e, get_or-set_same l i v no_region h) p) (λ e. rw (get_or-set_other l i j v no_region e) (q j))
+    by_cases (ℕ_discrete j i) (λ e. rw (e, get_or-set_same l i v 0 h) p) (λ e. rw (get_or-set_other l i j v 0 e) (q j))
 
-module _ {t : Task} {table : List Region} (few : block_count t ≤ 16) where
-  -- between two places with no region the array holds as much
+module _ {t : Task} {table : Table} (few : block_count t ≤ 16) where
+  -- between two places with no region the table holds as much
   pub table_same : {j k : ℕ} → j ≤ k → ((a b : ℕ) → a < b → b ≤ block_count t → 17 * a + b < k → 17 * a + b < j)
       → TableBefore j t table → TableBefore k t table
   table_same {j} {k} up none w =
-      record { regions = held_same no_region (region_in t) (block_count t) few table j k up none w.regions; widths = w.widths }
+      record {
+        fit = held_same false (region_fits t) (block_count t) few table.fits j k up none w.fit;
+        line = held_same 0 (region_lines t) (block_count t) few table.lines j k up none w.line;
+        cost = held_same 0 (region_cost t) (block_count t) few table.costs j k up none w.cost;
+        widths = w.widths;
+      }
 
   -- a region's fit, lines and cost are stored at its place
-  pub table_more : (a b : ℕ) → a < b → b ≤ block_count t → (v : Region) → v ≡ region_in t a b → v.lines ≤ 512 → v.cost < 2 ^ 48
-      → TableBefore (17 * a + b) t table → TableBefore (suc (17 * a + b)) t (set table (17 * a + b) v)
-  table_more a b below within v e small-l small-c w =
-      let place : 17 * a + b < length table = omega (arith, w.regions.0) in
+  pub table_more : (a b : ℕ) → a < b → b ≤ block_count t → (f : Bool) (l c : ℕ)
+      → f ≡ region_fits t a b → l ≡ region_lines t a b → c ≡ region_cost t a b → l ≤ 512 → c < 2 ^ 48
+      → TableBefore (17 * a + b) t table
+      → TableBefore (suc (17 * a + b)) t
+      (record { fits = set table.fits (17 * a + b) f; lines = set table.lines (17 * a + b) l; costs = set table.costs (17 * a + b) c })
+  table_more a b below within f l c ef el ec small-l small-c w =
       record {
-        regions = held_more no_region (region_in t) (block_count t) few table a b below within v e w.regions;
+        fit = held_more false (region_fits t) (block_count t) few table.fits a b below within f ef w.fit;
+        line = held_more 0 (region_lines t) (block_count t) few table.lines a b below within l el w.line;
+        cost = held_more 0 (region_cost t) (block_count t) few table.costs a b below within c ec w.cost;
         widths =
             record {
-              few = each_more (λ r. r.lines ≤ 512) table (17 * a + b) v place small-l w.widths.few;
-              small = each_more (λ r. r.cost < 2 ^ 48) table (17 * a + b) v place small-c w.widths.small;
+              few = each_more (λ n. n ≤ 512) table.lines (17 * a + b) l (omega (arith, w.line.0)) small-l w.widths.few;
+              small = each_more (λ n. n < 2 ^ 48) table.costs (17 * a + b) c (omega (arith, w.cost.0)) small-c w.widths.small;
             };
       }
 
@@ -103,9 +112,14 @@ zeros (suc n) z zero = refl
 zeros (suc n) z (suc i) = zeros n z i
 
 -- at the start it holds nothing
-pub table_none : (t : Task) → TableBefore 0 t (replicate 272 no_region)
+pub table_none : (t : Task) → TableBefore 0 t (record { fits = replicate 272 false; lines = replicate 272 0; costs = replicate 272 0 })
 table_none t =
     record {
-      regions = (refl, λ i. zeros 272 no_region i ∙ sym (rw (le-ltb i 0 (omega arith))));
-      widths = record { few = λ i. rw (zeros 272 no_region i) (omega arith); small = λ i. rw (zeros 272 no_region i) (omega arith) };
+      fit = none false _ _;
+      line = none 0 _ _;
+      cost = none 0 _ _;
+      widths = record { few = λ i. rw (zeros {A = ℕ} 272 0 i) (omega arith); small = λ i. rw (zeros {A = ℕ} 272 0 i) (omega arith) };
     }
+  where
+    none : {A : Type 0} (z : A) (f : ℕ → ℕ → A) (n : ℕ) → Holds 0 z f n (replicate 272 z)
+    none z f n = (refl, λ i. zeros 272 z i ∙ sym (rw (le-ltb i 0 (omega arith))))

@@ -14,8 +14,8 @@ use Rattle.model.specs.Lists.{steps, regions, every, total, right_point, lowest_
 use Rattle.model.specs.Regions.{region_lines, region_fits, region_cost}
 use Rattle.enumerating.specs.Numbers.{points_after, list_of}
 use Rattle.enumerating.specs.Search.{next_number, entry_of, found_at, next_found, next_in, if_fitting}
-use Rattle.enumerating.specs.Table.{no_region, held_in, fit_in, lines_in, cost_in, region_in, RegionTable}
-use Rattle.enumerating.specs.declared.Region.{Region}
+use Rattle.enumerating.specs.Table.{fit_in, lines_in, cost_in, RegionTable}
+use Rattle.enumerating.specs.declared.Table.{Table}
 use Rattle.enumerating.proofs.Numbers.{list_right}
 use Rattle.enumerating.proofs.Filling.{held}
 
@@ -136,7 +136,7 @@ same_total f g n a (p ∷ ps) same h w =
     (same_total f g n p ps same (ltb-true p n right.1) both.1)
 
 -- so the table leads to what the task's own fits and sums lead to
-pub same_next : (t : Task) (table : List Region) (start : ℕ) → 0 < block_count t → block_count t ≤ 16 → RegionTable t table
+pub same_next : (t : Task) (table : Table) (start : ℕ) → 0 < block_count t → block_count t ≤ 16 → RegionTable t table
     → next_found (fit_in table) (lines_in table) (cost_in table) (block_count t) start ≡ next_in t start
 unfolding next_number entry_of
 same_next t table start positive few w =
@@ -145,17 +145,14 @@ same_next t table start positive few w =
     (fun_ext (λ m. λ i. record { number = m; lines = sums (lines_in table) (region_lines t) line m i; cost = sums (cost_in table) (region_cost t) cost m i }))
     (ap (λ (f : ℕ → Bool). lowest_from f start (2 ^ (n - 1) - start)) (fun_ext (λ m. ap not (same-every (fit_in table) (region_fits t) n 0 (list_of n m) fit positive (list_right n m positive)))))
   where
-    entry : (a b : ℕ) → a < b → b ≤ block_count t → held_in table a b ≡ region_in t a b
-    entry = held no_region (region_in t) (block_count t) few table w.regions
-
     fit : (a b : ℕ) → a < b → b ≤ block_count t → fit_in table a b ≡ region_fits t a b
-    fit a b h l = ap (λ (r : Region). r.fits) (entry a b h l)
+    fit = held false (region_fits t) (block_count t) few table.fits w.fit
 
     line : (a b : ℕ) → a < b → b ≤ block_count t → lines_in table a b ≡ region_lines t a b
-    line a b h l = ap (λ (r : Region). r.lines) (entry a b h l)
+    line = held 0 (region_lines t) (block_count t) few table.lines w.line
 
     cost : (a b : ℕ) → a < b → b ≤ block_count t → cost_in table a b ≡ region_cost t a b
-    cost a b h l = ap (λ (r : Region). r.cost) (entry a b h l)
+    cost = held 0 (region_cost t) (block_count t) few table.costs w.cost
 
     sums : (f g : ℕ → ℕ → ℕ) → ((a b : ℕ) → a < b → b ≤ block_count t → f a b ≡ g a b) → (m : ℕ)
         → list_cost f (block_count t) (list_of (block_count t) m) ≡ list_cost g (block_count t) (list_of (block_count t) m)

@@ -1,7 +1,7 @@
 -- Laws of joined tasks: their counts, what the rows say when they accept, and that a joined task is within the limits of a file.
 -- Assumes nothing.
 use Prim.Native.Nat.{ℕ, ◌+◌, ◌*◌, ◌≤◌, min}
-use mathlib.Core.Path.{◌≡◌, refl, sym, ◌∙◌}
+use mathlib.Core.Path.{◌≡◌, refl}
 use mathlib.Core.Bool.{true, ◌&&◌, and-eq-true_iff}
 use mathlib.Core.List.{append_assoc}
 use native.Mathlib.Omega.{arith}

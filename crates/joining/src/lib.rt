@@ -1,7 +1,8 @@
 // Two task files joined into one: the basic blocks of the first and then of the second, and the preempters likewise.
 #![tactic(auto)]
 
-ghost use Rattle.std.specs.Prelude.{◌≡◌, ◌+◌, ◌*◌, length};
+ghost use Rattle.std.specs.Prelude.{◌≡◌, ◌+◌, ◌*◌, ◌≤◌, length};
+ghost use Rattle.model.specs.Task.{block_count};
 ghost use Rattle.model.specs.Answers.{on_accepted};
 ghost use Rattle.answers.specs.Places.{placed};
 ghost use Rattle.taskfile.specs.File.{task_of, file_of, IsAccepted};
@@ -86,14 +87,31 @@ fn put_joined(out: &mut [u8], first: &[u8], second: &[u8], blocks: usize, preemp
     writer::close_file(out, blocks as u16, preempters as u16, header);
 }
 
+// N of the joined task.
+fn joined_blocks(first: &[u8], second: &[u8]) -> usize
+    requires { IsAccepted first.now × IsAccepted second.now }
+    ensures { (result ≡ block_count (joined (task_of first.now) (task_of second.now))) × (result ≤ 128) }
+{
+    taskfile::block_count(first) + taskfile::block_count(second)
+}
+
+// M of the joined task.
+fn joined_preempters(first: &[u8], second: &[u8]) -> usize
+    requires { IsAccepted first.now × IsAccepted second.now }
+    ensures { (result ≡ length (joined (task_of first.now) (task_of second.now)).preempters) × (result ≤ 64) }
+{
+    taskfile::preempter_count(first) + taskfile::preempter_count(second)
+}
+
 // Joins accepted files.
+#[tactic(auto, unfolding(crate::specs::Calls::join_rows))]
 fn join_accepted(out: &mut [u8], first: &[u8], second: &[u8]) -> Result<(), Refusal>
     requires { IsAccepted first.now × IsAccepted second.now }
     ensures value { result ≡ join_rows (task_of first.now) (task_of second.now) (length out.old) }
     ensures out_after { out.new ≡ on_accepted result (file_of (joined (task_of first.now) (task_of second.now))) out.old }
 {
-    let blocks = taskfile::block_count(first) + taskfile::block_count(second);
-    let preempters = taskfile::preempter_count(first) + taskfile::preempter_count(second);
+    let blocks = joined_blocks(first, second);
+    let preempters = joined_preempters(first, second);
     check_agree(first, second)?;
     check_totals(blocks, preempters)?;
     answers::check_output(

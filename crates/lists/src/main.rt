@@ -7,7 +7,7 @@ ghost use Rattle.model.specs.Answers.{accept};
 ghost use Rattle.enumerating.specs.Table.{Small};
 ghost use Rattle.listing.specs.Calls.{list_verdict};
 
-use enumerating::Region;
+use enumerating::Table;
 use std::io;
 
 // Appends a number, a space and a cost to what a page holds.
@@ -25,7 +25,7 @@ fn collect_line(
 }
 
 // What the call finds from 0, and then from one above the last number.
-fn print_all(rt: &impl Print, table: &[Region; 272], blocks: usize) -> io::Result<()>
+fn print_all(rt: &impl Print, table: &Table, blocks: usize) -> io::Result<()>
     requires { (1 ≤ blocks) × (blocks ≤ 16) × Small table.now }
 {
     let mut page = [0u8; 4096];

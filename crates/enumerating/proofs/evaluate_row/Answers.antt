@@ -1,6 +1,6 @@
 -- `enumerating::evaluate_row` meets its contract. The loop's invariant: the region starts at edge
 -- a, and the table holds the regions up to its end.
-use Prim.Native.Nat.{suc, ◌+◌, ◌*◌, ◌<◌}
+use Prim.Native.Nat.{suc, ◌+◌, ◌*◌}
 use mathlib.Core.Path.{◌≡◌, ◌∙◌}
 use native.Mathlib.Omega.{arith}
 use Rattle.taskfile.specs.File.{task_of}
@@ -50,9 +50,8 @@ loop-region-preserved c =
       grown.0,
       grown.1 ∙ l.invariant.1,
       omega (arith, grown.2),
-      table_more c.requires.new_lines.1 a b (omega (arith, grown.2, l.invariant.0.rising, l.invariant.1)) grown.0.within _
-          (cc (rw from at (weighs.fits t header_is grown.0), rw from at grown.0.lines, rw from at (weighs.cost t header_is grown.0))) grown.0.few weighs.small
-          (rw back at l.invariant.3),
+      table_more c.requires.new_lines.1 a b (omega (arith, grown.2, l.invariant.0.rising, l.invariant.1)) grown.0.within _ _ _ (rw from at (weighs.fits t header_is grown.0))
+          (rw from at grown.0.lines) (rw from at (weighs.cost t header_is grown.0)) grown.0.few weighs.small (rw back at l.invariant.3),
     )
 
 pub returns : goal.returns

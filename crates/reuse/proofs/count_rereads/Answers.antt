@@ -115,12 +115,12 @@ loop-j-preserved c =
     counting_more t outer.i inner.j number.result inside counted number_is inner.invariant line reread.result cached slot.ensures.1 of.lies
     (accepted-file.few-blocks file c.requires.accepted.0) (reread.ensures.0 ∙ rw (c.requires.evicted_len.1 line) refl) reread.ensures.1 in
     rw next
-      (elim c.if-whole.branch [
-        | then-whole w ↦
-            let on = all-cached t number.result slot.result of (sym (whole.ensures t c.requires.accepted.1) ∙ w.if-whole.true) in
-            rw w.held-is (more (Held number.result) _ (rw on refl) c.if_cached.ensures)
-        | else-whole w ↦ rw w.held-is (more _ _ w.if_cached-else-whole.ensures c.if_cached.ensures)
-      ])
+    (elim c.if-whole.branch [
+      | then-whole w ↦
+          let on = all-cached t number.result slot.result of (sym (whole.ensures t c.requires.accepted.1) ∙ w.if-whole.true) in
+          rw w.held-is (more (Held number.result) _ (rw on refl) c.if_cached.ensures)
+      | else-whole w ↦ rw w.held-is (more _ _ w.if_cached-else-whole.ensures c.if_cached.ensures)
+    ])
 
 pub loop-i-preserved : goal.loop-i-preserved
 loop-i-preserved c =

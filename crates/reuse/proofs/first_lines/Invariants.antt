@@ -9,4 +9,4 @@ use Rattle.reuse.proofs.first_lines.Given as goal
 
 abbrev pub invariant-loop-k : goal.invariant-loop-k
 invariant-loop-k l =
-    Noted (task_of l.file) (reads_of (take (l.k - l.a) (drop l.a (task_of l.file).blocks))) l.initial.read l.initial.first l.read l.first (members l.lines)
+    Noted (task_of l.file) (reads_of (take (l.k - l.a) (drop l.a (task_of l.file).blocks))) l.initial.first l.first (members l.lines)

@@ -8,4 +8,4 @@ use Rattle.reuse.proofs.first_lines_in.Given as goal
 
 abbrev pub invariant-loop-j : goal.invariant-loop-j
 invariant-loop-j l =
-    Noted (task_of l.file) (take l.j (entry_reads l.file l.k)) l.initial.read l.initial.first l.read l.first (members l.lines)
+    Noted (task_of l.file) (take l.j (entry_reads l.file l.k)) l.initial.first l.first (members l.lines)

@@ -57,8 +57,8 @@ loop-i-preserved c =
     let second = c.read-second in
     let next : 2 * (c.loop-i.i + 1) ≡ at + 1 + 1 = omega arith in
     rw next
-          (left-off (on_line (task_of file) c.args.c) (entry_reads file c.args.k) (at + 1) second.result (omega arith) second.ensures
-          (first-passed (goal.at.loop-i-preserved c).Else-lies_on) (sym (c.lies_on-in-loop-i.ensures (task_of file) c.requires.geometry_of) ∙ c.if-lies_on-2.false))
+    (left-off (on_line (task_of file) c.args.c) (entry_reads file c.args.k) (at + 1) second.result (omega arith) second.ensures
+    (first-passed (goal.at.loop-i-preserved c).Else-lies_on) (sym (c.lies_on-in-loop-i.ensures (task_of file) c.requires.geometry_of) ∙ c.if-lies_on-2.false))
 
 pub read-last-requires : goal.read-last-requires
 read-last-requires c = record { accepted = search rules; j_in_bounds = omega arith }

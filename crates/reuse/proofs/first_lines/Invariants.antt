@@ -1,5 +1,5 @@
 -- `reuse::first_lines` meets its contract. The loop's invariant: the reads of the blocks passed are noted.
-use Prim.Native.Nat.{◌-◌, ◌≤◌}
+use Prim.Native.Nat.{◌-◌}
 use lib.ListN.{take, drop}
 use Rattle.model.specs.Lines.{reads_of}
 use Rattle.lineset.specs.Members.{members}

@@ -1,5 +1,4 @@
 -- `reuse::first_lines_in` meets its contract. The loop's invariant: the reads passed are noted.
-use Prim.Native.Nat.{◌-◌, ◌≤◌}
 use lib.ListN.{take}
 use Rattle.lineset.specs.Members.{members}
 use Rattle.taskfile.specs.File.{task_of, entry_reads}

@@ -1,5 +1,5 @@
 -- `reuse::reread_lines` meets its contract. The loop's invariant: the set is those of the lines below c.
-use Prim.Native.Nat.{ℕ, ◌-◌, ◌≤◌}
+use Prim.Native.Nat.{ℕ}
 use mathlib.Core.Path.{◌≡◌}
 use mathlib.Core.Bool.{Bool, ◌&&◌}
 use mathlib.Core.List.{List}

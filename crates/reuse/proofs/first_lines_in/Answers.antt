@@ -14,11 +14,6 @@ pub loop-j-init : goal.loop-j-init
 loop-j-init c =
     noted-none _ c.requires.first_len c.empty-lines.ensures
 
-pub note-lines-requires : goal.note-lines-requires
-note-lines-requires c =
-    let noted = c.loop-j.invariant in
-    (noted.long, c.line_of.ensures.1)
-
 pub loop-j-preserved : goal.loop-j-preserved
 loop-j-preserved c =
     let l = c.loop-j in

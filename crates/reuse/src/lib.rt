@@ -394,6 +394,7 @@ pub fn count_new_lines(file: &[u8], counts: &mut [u8; 4096])
 // One walk over the reads: what each line holds, and the block, from 0, that read it last. A read
 // of the number that a line of H holds is counted in the row of its own block, at the column of
 // that block. With a scratch range each new entry is chosen; without one it is stored as it is.
+// Document 01 names the array of lines, so the blocks that read them last are in an array beside it.
 fn count_rereads(file: &[u8], cache: Geometry, evicted: &[bool; 512], counts: &mut [u8; 4096])
     requires accepted { IsAccepted file.now × GeometryOf (task_of file.now) cache }
     requires evicted_len { (length evicted.now ≡ 512) × ((d : ℕ) → get_or evicted.now d false ≡ Lines.evicted (task_of file.now) d) }

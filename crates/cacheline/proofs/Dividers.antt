@@ -1,11 +1,9 @@
 -- A quotient by s from a product with f, a number near w / s, and a quotient by w: with f * s a little above w as it stands, and with f * s a
 -- little below w where f is added. Assumes nothing.
 use Prim.Native.Nat.{ℕ, ◌+◌, ◌-◌, ◌*◌, ◌/◌, ◌%◌, ◌^◌, ◌<◌, ◌≤◌}
-use mathlib.Core.Path.{◌≡◌, sym, ap, ◌∙◌}
+use mathlib.Core.Path.{◌≡◌}
 use native.Mathlib.Nat.{add-zero, div-mul-le_self, div-add-mod', lt-div-mul-add, mul-le-mul, mul-le-mul_right, le_of_mul-le-mul_right, lt_of_mul-lt-mul_right, div-eq_of_lt-le}
 use native.Mathlib.Omega.{arith}
-use lib.Bits.{bit_and, and_mask}
-use lib.Pow.{pow-add}
 use Rattle.cacheline.specs.Geometries.{Divides, PowerFor}
 use Rattle.cacheline.specs.declared.Divider.{Divider}
 use Rattle.cacheline.specs.declared.Power.{Power}
@@ -105,4 +103,3 @@ module _ (s : ℕ) (d : Divider) (of : Divides s d) (m : ℕ) (small : m < 2 ^ 3
 
   pub rest-is : m - (m * d.factor + d.addend) / 2 ^ d.shift * s ≡ m % s
   rest-is = rw (of.exact m small) (omega (arith, div-add-mod' m s))
-

@@ -74,6 +74,7 @@ pub fn charges_of(file: &[u8], points: &[u16]) -> [u32; 32]
 // The lines of each region of a well-formed list, in one walk over the reads: what each line holds,
 // and the region that read it last, from 1 on. A read loads its line if the line is of H, holds the
 // number, and was read last in an earlier region. Entries past the list's regions stay as they are.
+// Document 01 names the array of lines, so the regions that read them last are in an array beside it.
 pub fn count_lines(file: &[u8], points: &[u16], lines: &mut [u32; 64])
     requires { IsAccepted file.now × (wrong_point (block_count (task_of file.now)) points.now ≡ None) × (length lines.old ≡ 64) }
     ensures loads { Loads (task_of file.now) points.now lines.new }

@@ -3,7 +3,7 @@
 use Rattle.std.specs.Prelude.{Option}
 use Prim.Native.Nat.{ℕ, suc, ◌+◌, ◌-◌, ◌≤◌, ◌<◌}
 use mathlib.Core.Path.{◌≡◌, refl, sym, ap, ◌∙◌}
-use mathlib.Core.Bool.{Bool, true, false, not, cond, ◌&&◌, ◌||◌, or-false, or_assoc, and-false}
+use mathlib.Core.Bool.{Bool, true, false, not, cond, ◌&&◌, ◌||◌, or-false, and-false}
 use mathlib.Core.List.{List, [], ◌∷◌, ◌++◌, append-nil}
 use mathlib.Core.Logic.{by_cases}
 use native.Mathlib.Decide.{dec_lt}
@@ -19,80 +19,74 @@ use Rattle.model.specs.declared.Line.TheVariants.{Empty, Held}
 use Rattle.model.proofs.LineStates.{any_append, first-append}
 use Rattle.model.proofs.ReadOrder.{reads-append}
 use Rattle.model.proofs.Loads.{union-reads}
-use Rattle.reuse.specs.FirstReads.{first_in, Noted}
+use Rattle.reuse.specs.FirstReads.{is_read, or_then, Noted}
 
 -- no line is read yet
-pub none_read : (c : ℕ) → get_or (replicate 512 false) c false ≡ false
-none_read c = by_cases (dec_lt c 512) (λ h. get_or-replicate 512 c false false h) (λ h. get_or-eq_default (replicate 512 false) false {n = c} (omega arith))
+pub none_read : (c : ℕ) → get_or (replicate 512 Empty) c Empty ≡ Empty
+none_read c = by_cases (dec_lt c 512) (λ h. get_or-replicate 512 c Empty Empty h) (λ h. get_or-eq_default (replicate 512 Empty) Empty {n = c} (omega arith))
+
+-- some read is on the line if the first is
+read-any : (on : ℕ → Bool) (xs : List ℕ) → any_read on xs ≡ is_read (first_read on xs)
+unfolding any_read first_read
+read-any on [] = refl
+read-any on (x ∷ xs) = go (on x) (read-any on xs)
+  where
+    go : (b : Bool) → any_read on xs ≡ is_read (first_read on xs) → (b || any_read on xs) ≡ is_read (cond b (Held x) (first_read on xs))
+    go true e = refl
+    go false e = e
 
 module _ (t : Task) where
   -- no read
-  pub noted-none : {read : List Bool} {first : List ℕ} {lines : Lines} → length read ≡ 512 → length first ≡ 512 → ((c : ℕ) → lines c ≡ false)
-      → Noted t [] read first read first lines
+  pub noted-none : {first : List Line} {lines : Lines} → length first ≡ 512 → ((c : ℕ) → lines c ≡ false) → Noted t [] first first lines
   unfolding any_read first_read
-  noted-none {read} {first} long-read long-first none =
-      record {
-        long-read = long-read;
-        long-first = long-first;
-        read_is = λ c. sym (or-false _);
-        first-is = λ c. go (get_or read c false) (Held (get_or first c 0));
-        lines_are = λ c. none c ∙ sym (and-false (not (get_or read c false)));
-      }
+  noted-none {first} long none =
+      record { long = long; first-is = λ c. go (get_or first c Empty); lines_are = λ c. none c ∙ sym (and-false (not (is_read (get_or first c Empty)))) }
     where
-      go : (r : Bool) (l : Line) → cond r l Empty ≡ cond r (cond r l Empty) Empty
-      go true l = refl
-      go false l = refl
+      go : (l : Line) → l ≡ or_then l Empty
+      go Empty = refl
+      go (Held n) = refl
 
   -- one read, of m: it is noted on its line if that was not read before
-  pub noted_one : {read₀ read : List Bool} {first₀ first : List ℕ} (m : ℕ) (mapping : Option ℕ) → mapping ≡ line_of t m → length read ≡ 512 → length first ≡ 512
-      → ((c : ℕ) → get_or read c false ≡ (get_or read₀ c false || is_line c mapping))
-      → ((c : ℕ) → get_or first c 0 ≡ cond (not (get_or read₀ c false) && is_line c mapping) m (get_or first₀ c 0))
-      → Noted t (m ∷ []) read₀ first₀ read first (λ c. not (get_or read₀ c false) && is_line c mapping)
+  pub noted_one : {first₀ first : List Line} (m : ℕ) (mapping : Option ℕ) → mapping ≡ line_of t m → length first ≡ 512
+      → ((c : ℕ) → get_or first c Empty ≡ cond (not (is_read (get_or first₀ c Empty)) && is_line c mapping) (Held m) (get_or first₀ c Empty))
+      → Noted t (m ∷ []) first₀ first (λ c. not (is_read (get_or first₀ c Empty)) && is_line c mapping)
   unfolding any_read first_read on_line
-  noted_one {read₀} {read} {first₀} {first} m mapping e long-read long-first marked numbered =
-      record {
-        long-read = long-read;
-        long-first = long-first;
-        read_is = λ c. marked c ∙ rw (e, or-false) refl;
-        first-is = λ c. rw (marked c, numbered c, ← e) (go (get_or read₀ c false) (is_line c mapping) (get_or first₀ c 0));
-        lines_are = λ c. rw (e, or-false) refl;
-      }
+  noted_one {first₀} m mapping e long noted =
+      record { long = long; first-is = λ c. noted c ∙ rw (← e) (go (get_or first₀ c Empty) (is_line c mapping)); lines_are = λ c. rw (e, or-false) refl }
     where
-      go : (r on : Bool) (n : ℕ) → cond (r || on) (Held (cond (not r && on) m n)) Empty ≡ cond r (cond r (Held n) Empty) (cond on (Held m) Empty)
-      go true on n = refl
-      go false true n = refl
-      go false false n = refl
+      go : (l : Line) (on : Bool) → cond (not (is_read l) && on) (Held m) l ≡ or_then l (cond on (Held m) Empty)
+      go Empty true = refl
+      go Empty false = refl
+      go (Held n) on = refl
 
   -- some reads, and others after them
-  pub noted-append : {read₀ read₁ read₂ : List Bool} {first₀ first₁ first₂ : List ℕ} {lines₁ lines₂ lines : Lines} (xs ys : List ℕ)
-      → ((c : ℕ) → lines c ≡ (lines₁ c || lines₂ c)) → Noted t xs read₀ first₀ read₁ first₁ lines₁ → Noted t ys read₁ first₁ read₂ first₂ lines₂
-      → Noted t (xs ++ ys) read₀ first₀ read₂ first₂ lines
-  noted-append {read₀ = read₀} {first₀ = first₀} xs ys both v w =
+  pub noted-append : {first₀ first₁ first₂ : List Line} {lines₁ lines₂ lines : Lines} (xs ys : List ℕ)
+      → ((c : ℕ) → lines c ≡ (lines₁ c || lines₂ c)) → Noted t xs first₀ first₁ lines₁ → Noted t ys first₁ first₂ lines₂
+      → Noted t (xs ++ ys) first₀ first₂ lines
+  noted-append {first₀ = first₀} xs ys both v w =
       record {
-        long-read = w.long-read;
-        long-first = w.long-first;
-        read_is =
-            λ c. w.read_is c ∙ rw (v.read_is c, any_append (on_line t c) xs ys) (or_assoc (get_or read₀ c false) (any_read (on_line t c) xs) (any_read (on_line t c) ys));
+        long = w.long;
         first-is =
             λ c.
             w.first-is c ∙
-            rw (v.first-is c, v.read_is c, first-append (on_line t c) xs ys)
-            (one (get_or read₀ c false) (any_read (on_line t c) xs) (first_in read₀ first₀ c) (first_read (on_line t c) xs) (first_read (on_line t c) ys));
+            rw (v.first-is c, first-append (on_line t c) xs ys, read-any (on_line t c) xs)
+            (one (get_or first₀ c Empty) (first_read (on_line t c) xs) (first_read (on_line t c) ys));
         lines_are =
             λ c.
             both c ∙
-            rw (v.lines_are c, w.lines_are c, v.read_is c, any_append (on_line t c) xs ys)
-            (two (get_or read₀ c false) (any_read (on_line t c) xs) (any_read (on_line t c) ys));
+            rw (v.lines_are c, w.lines_are c, v.first-is c, any_append (on_line t c) xs ys, read-any (on_line t c) xs)
+            (two (get_or first₀ c Empty) (first_read (on_line t c) xs) (any_read (on_line t c) ys));
       }
     where
-      one : (r a : Bool) (l f g : Line) → cond (r || a) (cond r l f) g ≡ cond r l (cond a f g)
-      one true a l f g = refl
-      one false a l f g = refl
+      one : (l f g : Line) → or_then (or_then l f) g ≡ or_then l (cond (is_read f) f g)
+      one Empty Empty g = refl
+      one Empty (Held n) g = refl
+      one (Held n) f g = refl
 
-      two : (r a b : Bool) → (not r && a || not (r || a) && b) ≡ (not r && (a || b))
-      two true a b = refl
-      two false true b = refl
-      two false false b = refl
+      two : (l f : Line) (b : Bool) → (not (is_read l) && is_read f || not (is_read (or_then l f)) && b) ≡ (not (is_read l) && (is_read f || b))
+      two Empty Empty b = refl
+      two Empty (Held n) b = refl
+      two (Held n) f b = refl
 
   -- the reads of the blocks after edge a, one block more
   pub block_more : (a k : ℕ) → a ≤ k → k < block_count t
@@ -121,16 +115,16 @@ module _ (t : Task) where
         (take-append-drop (b - a) (drop a t.blocks)))
 
     -- what is noted of them all is each line's next read
-    pub next-noted : {read₁ read₂ : List Bool} {first₀ first₁ first₂ : List ℕ} {lines₁ lines₂ : Lines}
-        → Noted t (reads_of (take (b - a) (drop a t.blocks))) (replicate 512 false) first₀ read₁ first₁ lines₁
-        → Noted t (reads_of (take (block_count t - b) (drop b t.blocks))) read₁ first₁ read₂ first₂ lines₂
-        → (c : ℕ) → first_in read₂ first₂ c ≡ next_read t a c
+    pub next-noted : {first₁ first₂ : List Line} {lines₁ lines₂ : Lines}
+        → Noted t (reads_of (take (b - a) (drop a t.blocks))) (replicate 512 Empty) first₁ lines₁
+        → Noted t (reads_of (take (block_count t - b) (drop b t.blocks))) first₁ first₂ lines₂
+        → (c : ℕ) → get_or first₂ c Empty ≡ next_read t a c
     unfolding next_read
     next-noted {lines₁ = lines₁} {lines₂ = lines₂} v w c =
         (noted-append {lines = λ d. lines₁ d || lines₂ d} _ _ (λ d. refl) v w).first-is c ∙ rw (none_read c, halves) refl
 
     -- and the lines noted up to edge b are those that the blocks up to it read
-    pub union-noted : {read₁ : List Bool} {first₀ first₁ : List ℕ} {lines₁ : Lines}
-        → Noted t (reads_of (take (b - a) (drop a t.blocks))) (replicate 512 false) first₀ read₁ first₁ lines₁
+    pub union-noted : {first₁ : List Line} {lines₁ : Lines}
+        → Noted t (reads_of (take (b - a) (drop a t.blocks))) (replicate 512 Empty) first₁ lines₁
         → (c : ℕ) → lines₁ c ≡ union_after (accessed t) a (b - a) c
     union-noted v c = v.lines_are c ∙ rw (none_read c) (sym (union-reads t a (b - a) c (omega arith)))

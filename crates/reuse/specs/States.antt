@@ -1,5 +1,5 @@
 -- What arrays of 512 entries say of a cache's lines. Assumes nothing.
-use Rattle.std.specs.Prelude.{ℕ, zero, suc, ◌-◌, ◌≤◌, ◌<◌, ◌≡◌, Bool, false, cond, ◌&&◌, ◌||◌, List, eqb, length, get_or, None, Option, Some}
+use Rattle.std.specs.Prelude.{ℕ, zero, suc, ◌-◌, ◌≤◌, ◌<◌, ◌≡◌, cond, ◌&&◌, List, eqb, length, get_or, None, Option, Some}
 use Rattle.model.specs.Sets.{Lines}
 use Rattle.model.specs.Task.{Task, block_count}
 use Rattle.model.specs.Lines.{state_after, accessed}

@@ -13,7 +13,7 @@ ghost use Rattle.taskfile.specs.File.{IsAccepted, counts, task_of, entry_reads};
 ghost use Rattle.cacheline.specs.Geometries.{GeometryOf, WithinCache};
 ghost use Rattle.reuse.specs.Counts.{NewLines, Rereads, row_sum, SummedRow, SummedRows, OthersStay};
 ghost use Rattle.reuse.specs.States.{HeldAfter, MarkedBy, FirstMarks, edge_before, FirstBy, NotedTo, Settled};
-ghost use Rattle.reuse.specs.FirstReads.{first_in, Noted};
+ghost use Rattle.reuse.specs.FirstReads.{is_read, Noted};
 
 use cacheline::Geometry;
 use lineset::LineSet;
@@ -190,101 +190,78 @@ pub fn lines_between(file: &[u8], a: usize, b: usize) -> Between
 {
     let cache = cacheline::geometry_of(file);
     let held = held_after(file, cache, a);
-    let mut read = [false; 512];
-    let mut first = [0u32; 512];
-    let accessed = first_lines(&mut read, &mut first, file, cache, a, b);
-    first_lines(
-        &mut read,
-        &mut first,
-        file,
-        cache,
-        b,
-        taskfile::block_count(file),
-    );
+    let mut first = [Line::Empty; 512];
+    let accessed = first_lines(&mut first, file, cache, a, b);
+    first_lines(&mut first, file, cache, b, taskfile::block_count(file));
     Between {
-        useful: reread_lines(held, &read, &first, cache.line_count as usize),
+        useful: reread_lines(&held, &first, cache.line_count as usize),
         accessed,
     }
 }
 
 // The lines that blocks a + 1 to b read and that were not read before, block after block.
-fn first_lines(
-    read: &mut [bool; 512],
-    first: &mut [u32; 512],
-    file: &[u8],
-    cache: Geometry,
-    a: usize,
-    b: usize,
-) -> LineSet
-    requires read_len { (length read.old ≡ 512) × (length first.old ≡ 512) }
+fn first_lines(first: &mut [Line; 512], file: &[u8], cache: Geometry, a: usize, b: usize) -> LineSet
+    requires first_len { length first.old ≡ 512 }
     requires accepted { IsAccepted file.now × (a ≤ b) × (b ≤ block_count (task_of file.now)) × GeometryOf (task_of file.now) cache }
-    ensures { Noted (task_of file.now) (reads_of (take (b - a) (drop a (task_of file.now).blocks))) read.old first.old read.new first.new (members result) }
+    ensures { Noted (task_of file.now) (reads_of (take (b - a) (drop a (task_of file.now).blocks))) first.old first.new (members result) }
 {
     let mut lines = LineSet::empty();
     for k in a..b {
-        lines = lines.union(first_lines_in(read, first, file, cache, k + 1));
+        lines = lines.union(first_lines_in(first, file, cache, k + 1));
     }
     lines
 }
 
 // The lines that block k reads and that were not read before, each added once.
-fn first_lines_in(
-    read: &mut [bool; 512],
-    first: &mut [u32; 512],
-    file: &[u8],
-    cache: Geometry,
-    k: usize,
-) -> LineSet
-    requires read_len { (length read.old ≡ 512) × (length first.old ≡ 512) }
+fn first_lines_in(first: &mut [Line; 512], file: &[u8], cache: Geometry, k: usize) -> LineSet
+    requires first_len { length first.old ≡ 512 }
     requires accepted { IsAccepted file.now × (1 ≤ k) × (k ≤ (counts file.now).blocks + (counts file.now).preempters) }
     requires geometry_of { GeometryOf (task_of file.now) cache }
-    ensures { Noted (task_of file.now) (entry_reads file.now k) read.old first.old read.new first.new (members result) }
+    ensures { Noted (task_of file.now) (entry_reads file.now k) first.old first.new (members result) }
 {
     let reads = taskfile::read_count(file, k);
     let mut lines = LineSet::empty();
     for j in 0..reads {
         let number = taskfile::read(file, k, j);
-        lines = note(read, first, lines, cache.line_of(number), number);
+        lines = note(first, lines, cache.line_of(number), number);
     }
     lines
 }
 
 // Notes the read of a number on a line, if there is one and it was not read before, and adds the line to the set.
-fn note(
-    read: &mut [bool; 512],
-    first: &mut [u32; 512],
-    lines: LineSet,
-    mapping: Option<usize>,
-    number: u32,
-) -> LineSet
-    requires { (length read.old ≡ 512) × (length first.old ≡ 512) × WithinCache mapping }
-    ensures read_len { (length read.new ≡ 512) × (length first.new ≡ 512) }
-    ensures by_index { (c : ℕ) → get_or read.new c false ≡ (get_or read.old c false || is_line c mapping) }
-    ensures by_index_2 { (c : ℕ) → get_or first.new c 0 ≡ cond (not (get_or read.old c false) && is_line c mapping) number (get_or first.old c 0) }
-    ensures by_index_3 { (c : ℕ) → members result c ≡ (members lines c || not (get_or read.old c false) && is_line c mapping) }
+fn note(first: &mut [Line; 512], lines: LineSet, mapping: Option<usize>, number: u32) -> LineSet
+    requires { (length first.old ≡ 512) × WithinCache mapping }
+    ensures first_len { length first.new ≡ 512 }
+    ensures by_index { (c : ℕ) → get_or first.new c Line.Empty ≡ cond (not (is_read (get_or first.old c Line.Empty)) && is_line c mapping) (Line.Held number) (get_or first.old c Line.Empty) }
+    ensures by_index_2 { (c : ℕ) → members result c ≡ (members lines c || not (is_read (get_or first.old c Line.Empty)) && is_line c mapping) }
 {
     let Some(c) = mapping else {
         return lines;
     };
-    if read[c] {
+    if first[c] != Line::Empty {
         return lines;
     }
-    read[c] = true;
-    first[c] = number;
+    first[c] = Line::Held(number);
     lines.with(c)
 }
 
 // The lines below count that hold the number that was read on them first.
-fn reread_lines(held: [Line; 512], read: &[bool; 512], first: &[u32; 512], count: usize) -> LineSet
-    requires { (length held ≡ 512) × (length read.now ≡ 512) × (length first.now ≡ 512) × (count ≤ 512) }
-    ensures { (c : ℕ) → members result c ≡ (ltb c count && same_block (get_or held c Line.Empty) (first_in read.now first.now c)) }
+fn reread_lines(held: &[Line; 512], first: &[Line; 512], count: usize) -> LineSet
+    requires { (length held.now ≡ 512) × (length first.now ≡ 512) × (count ≤ 512) }
+    ensures { (c : ℕ) → members result c ≡ (ltb c count && same_block (get_or held.now c Line.Empty) (get_or first.now c Line.Empty)) }
 {
     let mut lines = LineSet::empty();
     for c in 0..count {
-        let line = held[c];
-        lines = with_marked(lines, c, read[c] & (line == Line::Held(first[c])));
+        lines = with_marked(lines, c, same_block(held[c], first[c]));
     }
     lines
+}
+
+// Whether two lines hold the same memory block; an empty line holds none.
+fn same_block(a: Line, b: Line) -> bool
+    ensures { result ≡ same_block a b }
+{
+    (a != Line::Empty) & (a == b)
 }
 
 // What each line holds after basic blocks 1 to k.
@@ -417,6 +394,7 @@ pub fn count_new_lines(file: &[u8], counts: &mut [u8; 4096])
 // One walk over the reads: what each line holds, and the block, from 0, that read it last. A read
 // of the number that a line of H holds is counted in the row of its own block, at the column of
 // that block. With a scratch range each new entry is chosen; without one it is stored as it is.
+// Document 01 names the array of lines, so the blocks that read them last are in an array beside it.
 fn count_rereads(file: &[u8], cache: Geometry, evicted: &[bool; 512], counts: &mut [u8; 4096])
     requires accepted { IsAccepted file.now × GeometryOf (task_of file.now) cache }
     requires evicted_len { (length evicted.now ≡ 512) × ((d : ℕ) → get_or evicted.now d false ≡ Lines.evicted (task_of file.now) d) }

@@ -90,18 +90,6 @@ pub read-number-requires : goal.read-number-requires
 read-number-requires c =
     record { accepted = (c.requires.0, omega arith, omega (arith, accepted-file.block-count c.args.file.now)); j_in_bounds = omega arith }
 
-pub offset_bounds-held-c : goal.offset_bounds-held-c
-offset_bounds-held-c c = omega (arith, c.slot_of-slot.ensures.1)
-
-pub bounds-held-c : goal.bounds-held-c
-bounds-held-c c = omega (arith, c.slot_of-slot.ensures.1)
-
-pub bounds-since-c : goal.bounds-since-c
-bounds-since-c c = omega (arith, c.slot_of-slot.ensures.1)
-
-pub bounds-first-c : goal.bounds-first-c
-bounds-first-c c = omega (arith, c.slot_of-slot.ensures.1)
-
 pub overflow_add-count : goal.overflow_add-count
 overflow_add-count c =
     let inner = c.loop-j in
@@ -114,21 +102,6 @@ overflow_add-charges c =
     let inner = c.loop-j in
     let mark = get_or c.mark_first.new.marks c.slot_of-slot.result.line 0 in
     omega (arith, c.loads-loaded.ensures.1, few (goal.at.overflow_add-charges c).Joined-edge_after-i, charged-few inner.invariant.2 (mark % 32) (omega arith))
-
-pub bounds-since-c-in-loop-j : goal.bounds-since-c-in-loop-j
-bounds-since-c-in-loop-j c = omega (arith, c.slot_of-slot.ensures.1)
-
-pub offset_bounds-held-c-then-whole : goal.offset_bounds-held-c-then-whole
-offset_bounds-held-c-then-whole c = omega (arith, c.slot_of-slot.ensures.1)
-
-pub bounds-held-c-then-whole : goal.bounds-held-c-then-whole
-bounds-held-c-then-whole c = omega (arith, c.slot_of-slot.ensures.1)
-
-pub offset_bounds-held-c-else-whole : goal.offset_bounds-held-c-else-whole
-offset_bounds-held-c-else-whole c = omega (arith, c.slot_of-slot.ensures.1)
-
-pub bounds-held-c-else-whole : goal.bounds-held-c-else-whole
-bounds-held-c-else-whole c = omega (arith, c.slot_of-slot.ensures.1)
 
 pub loop-j-preserved : goal.loop-j-preserved
 loop-j-preserved c =

@@ -1,5 +1,5 @@
 -- `pricing::charge_lines` meets its contract. Both loops keep what the lines hold and since when, the regions counted, and the charges.
-use Prim.Native.Nat.{suc, ◌+◌, ◌-◌, ◌≤◌}
+use Prim.Native.Nat.{suc, ◌+◌}
 use mathlib.Core.Path.{◌≡◌}
 use Rattle.model.specs.Lines.{evicted}
 use Rattle.model.proofs.Loads.{loaded_by}

@@ -79,39 +79,12 @@ pub read-number-requires : goal.read-number-requires
 read-number-requires c =
     record { accepted = (c.requires.0, omega arith, omega (arith, accepted-file.block-count c.args.file.now)); j_in_bounds = omega arith }
 
-pub offset_bounds-held-c : goal.offset_bounds-held-c
-offset_bounds-held-c c = omega (arith, c.slot_of-slot.ensures.1)
-
-pub bounds-held-c : goal.bounds-held-c
-bounds-held-c c = omega (arith, c.slot_of-slot.ensures.1)
-
-pub bounds-since-c : goal.bounds-since-c
-bounds-since-c c = omega (arith, c.slot_of-slot.ensures.1)
-
-pub bounds-evicted-c : goal.bounds-evicted-c
-bounds-evicted-c c = omega (arith, c.slot_of-slot.ensures.1)
-
 pub overflow_add-count : goal.overflow_add-count
 overflow_add-count c =
     let inner = c.loop-j in
     let args = c.args in
     let t = task_of args.file.now in
     omega (arith, c.loads-count.ensures.1, inner.invariant.1, loaded-few t (evicted t) (start_of t args.points.now c.if-edge_after-i.region) (edge t c.loop-i.i + inner.j))
-
-pub bounds-since-c-in-loop-j : goal.bounds-since-c-in-loop-j
-bounds-since-c-in-loop-j c = omega (arith, c.slot_of-slot.ensures.1)
-
-pub offset_bounds-held-c-then-whole : goal.offset_bounds-held-c-then-whole
-offset_bounds-held-c-then-whole c = omega (arith, c.slot_of-slot.ensures.1)
-
-pub bounds-held-c-then-whole : goal.bounds-held-c-then-whole
-bounds-held-c-then-whole c = omega (arith, c.slot_of-slot.ensures.1)
-
-pub offset_bounds-held-c-else-whole : goal.offset_bounds-held-c-else-whole
-offset_bounds-held-c-else-whole c = omega (arith, c.slot_of-slot.ensures.1)
-
-pub bounds-held-c-else-whole : goal.bounds-held-c-else-whole
-bounds-held-c-else-whole c = omega (arith, c.slot_of-slot.ensures.1)
 
 pub loop-j-preserved : goal.loop-j-preserved
 loop-j-preserved c =

@@ -1,6 +1,6 @@
 -- `pricing::count_lines` meets its contract. Both loops keep what the lines hold and since when,
 -- and the regions counted. Without a scratch range each read is cached.
-use Prim.Native.Nat.{suc, ◌+◌, ◌-◌, ◌≤◌}
+use Prim.Native.Nat.{suc, ◌+◌}
 use mathlib.Core.Path.{◌≡◌}
 use Rattle.model.specs.Lines.{evicted}
 use Rattle.model.proofs.Loads.{loaded_by}

@@ -1,8 +1,6 @@
 -- `pricing::price_regions` meets its contract. The loop's invariant: the regions passed are within the limit, and lines and cost are the sums of theirs.
 -- Each point is above the last, so there are at most 64 regions.
-use Prim.Native.Nat.{◌+◌, ◌-◌}
 use mathlib.Core.Path.{◌≡◌}
-use lib.ListN.{length}
 use Rattle.taskfile.specs.File.{task_of}
 use Rattle.pricing.proofs.Pricing.{start_of, Passed}
 use Rattle.pricing.proofs.price_regions.Given as goal

@@ -15,7 +15,7 @@ use Rattle.taskfile.proofs.Accepted as accepted-file
 use Rattle.cacheline.proofs.Below.{line-below}
 use Rattle.replaying.proofs.Steps.{at-start, read-skip, read_more, pass-edge, at-end}
 use Rattle.replaying.proofs.count_misses.Goals as goal
-use Rattle.replaying.proofs.count_misses.Goals.{in_default, in-Some, In-Some}
+use Rattle.replaying.proofs.count_misses.Goals.{in_default, in-Some}
 
 pub loop-i-init : goal.loop-i-init
 loop-i-init c =
@@ -38,31 +38,6 @@ loop-j-init c = (omega arith, omega arith, rw add-zero c.loop-i.invariant.4)
 pub read-number-requires : goal.read-number-requires
 read-number-requires c =
     record { accepted = (c.requires.0, omega arith, omega (arith, accepted-file.block-count c.args.file.now)); j_in_bounds = omega arith }
-
--- the line is one of the arrays
-below : (c : goal.In-Some) → c.in-Some.c < 512
-below c = let line = c.line_of in line-below line.result c.in-Some.c c.in-Some.is line.ensures.1
-
-pub offset_bounds-held-c : goal.offset_bounds-held-c
-offset_bounds-held-c c = omega (arith, below (goal.at.offset_bounds-held-c c).In-Some)
-
-pub bounds-held-c : goal.bounds-held-c
-bounds-held-c c = omega (arith, below (goal.at.bounds-held-c c).In-Some)
-
-pub bounds-evicted-c : goal.bounds-evicted-c
-bounds-evicted-c c = omega (arith, below (goal.at.bounds-evicted-c c).In-Some)
-
-pub bounds-since-c : goal.bounds-since-c
-bounds-since-c c = omega (arith, below (goal.at.bounds-since-c c).In-Some)
-
-pub offset_bounds-held-c-in-Some : goal.offset_bounds-held-c-in-Some
-offset_bounds-held-c-in-Some c = omega (arith, below (goal.at.offset_bounds-held-c-in-Some c).In-Some)
-
-pub bounds-held-c-in-Some : goal.bounds-held-c-in-Some
-bounds-held-c-in-Some c = omega (arith, below (goal.at.bounds-held-c-in-Some c).In-Some)
-
-pub bounds-since-c-in-Some : goal.bounds-since-c-in-Some
-bounds-since-c-in-Some c = omega (arith, below (goal.at.bounds-since-c-in-Some c).In-Some)
 
 pub loop-j-preserved : goal.loop-j-preserved
 loop-j-preserved c =

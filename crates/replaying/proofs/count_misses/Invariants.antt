@@ -1,5 +1,5 @@
 -- `replaying::count_misses` meets its contract. Both loops keep the walk's state after the blocks and reads passed, and the points that are left.
-use Prim.Native.Nat.{◌+◌, ◌-◌, ◌*◌, ◌≤◌}
+use Prim.Native.Nat.{◌+◌, ◌*◌, ◌≤◌}
 use Rattle.model.proofs.ReadOrder.{edge}
 use Rattle.taskfile.specs.File.{task_of}
 use Rattle.replaying.proofs.Steps.{Replayed, PointsLeft}

@@ -28,18 +28,9 @@ read_count-reads-requires c =
 pub loop-j-init : goal.loop-j-init
 loop-j-init c = rw add-zero c.loop-i.invariant
 
-pub read-number-requires : goal.read-number-requires
-read-number-requires c =
-    record { accepted = (c.requires.accepted.0, omega arith, omega (arith, accepted-file.block-count c.args.file.now)); j_in_bounds = omega arith }
-
-pub offset_bounds-held-c : goal.offset_bounds-held-c
-offset_bounds-held-c c = omega (arith, c.slot_of-slot.ensures.1)
-
-pub bounds-held-c : goal.bounds-held-c
-bounds-held-c c = omega (arith, c.slot_of-slot.ensures.1)
-
-pub bounds-since-c : goal.bounds-since-c
-bounds-since-c c = omega (arith, c.slot_of-slot.ensures.1)
+pub read-number-requires-clause-accepted : goal.read-number-requires-clause-accepted
+read-number-requires-clause-accepted c =
+    (c.requires.accepted.0, omega arith, omega (arith, accepted-file.block-count c.args.file.now))
 
 -- the count is one of the array
 column : (c : goal.After-slot_of-slot)
@@ -51,12 +42,6 @@ overflow_cast-at c = record { fits = omega (arith, column (goal.at.overflow_cast
 
 pub overflow_add-at : goal.overflow_add-at
 overflow_add-at c = record { fits = omega (arith, column (goal.at.overflow_add-at c).After-slot_of-slot) }
-
-pub bounds-evicted-c : goal.bounds-evicted-c
-bounds-evicted-c c = omega (arith, c.slot_of-slot.ensures.1)
-
-pub bounds-counts-at : goal.bounds-counts-at
-bounds-counts-at c = column (goal.at.bounds-counts-at c).After-slot_of-slot
 
 pub overflow_add-counts : goal.overflow_add-counts
 overflow_add-counts c =
@@ -72,24 +57,6 @@ overflow_add-counts c =
             c.read_count-reads.ensures.1,
           );
     }
-
-pub bounds-counts-at-in-loop-j : goal.bounds-counts-at-in-loop-j
-bounds-counts-at-in-loop-j c = column (goal.at.bounds-counts-at-in-loop-j c).After-slot_of-slot
-
-pub bounds-since-c-in-loop-j : goal.bounds-since-c-in-loop-j
-bounds-since-c-in-loop-j c = omega (arith, c.slot_of-slot.ensures.1)
-
-pub offset_bounds-held-c-then-whole : goal.offset_bounds-held-c-then-whole
-offset_bounds-held-c-then-whole c = omega (arith, c.slot_of-slot.ensures.1)
-
-pub bounds-held-c-then-whole : goal.bounds-held-c-then-whole
-bounds-held-c-then-whole c = omega (arith, c.slot_of-slot.ensures.1)
-
-pub offset_bounds-held-c-else-whole : goal.offset_bounds-held-c-else-whole
-offset_bounds-held-c-else-whole c = omega (arith, c.slot_of-slot.ensures.1)
-
-pub bounds-held-c-else-whole : goal.bounds-held-c-else-whole
-bounds-held-c-else-whole c = omega (arith, c.slot_of-slot.ensures.1)
 
 pub loop-j-preserved : goal.loop-j-preserved
 loop-j-preserved c =
@@ -115,12 +82,12 @@ loop-j-preserved c =
     counting_more t outer.i inner.j number.result inside counted number_is inner.invariant line reread.result cached slot.ensures.1 of.lies
     (accepted-file.few-blocks file c.requires.accepted.0) (reread.ensures.0 ∙ rw (c.requires.evicted_len.1 line) refl) reread.ensures.1 in
     rw next
-      (elim c.if-whole.branch [
-        | then-whole w ↦
-            let on = all-cached t number.result slot.result of (sym (whole.ensures t c.requires.accepted.1) ∙ w.if-whole.true) in
-            rw w.held-is (more (Held number.result) _ (rw on refl) c.if_cached.ensures)
-        | else-whole w ↦ rw w.held-is (more _ _ w.if_cached-else-whole.ensures c.if_cached.ensures)
-      ])
+    (elim c.if-whole.branch [
+      | then-whole w ↦
+          let on = all-cached t number.result slot.result of (sym (whole.ensures t c.requires.accepted.1) ∙ w.if-whole.true) in
+          rw w.held-is (more (Held number.result) _ (rw on refl) c.if_cached.ensures)
+      | else-whole w ↦ rw w.held-is (more _ _ w.if_cached-else-whole.ensures c.if_cached.ensures)
+    ])
 
 pub loop-i-preserved : goal.loop-i-preserved
 loop-i-preserved c =

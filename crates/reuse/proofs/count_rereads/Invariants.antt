@@ -1,6 +1,6 @@
 -- `reuse::count_rereads` meets its contract. Both loops keep the state of the walk after the reads
 -- passed. Without a scratch range each read is cached.
-use Prim.Native.Nat.{◌+◌, ◌-◌, ◌≤◌}
+use Prim.Native.Nat.{◌+◌}
 use Rattle.model.proofs.ReadOrder.{edge}
 use Rattle.taskfile.specs.File.{task_of}
 use Rattle.reuse.proofs.Counting.{Counting}

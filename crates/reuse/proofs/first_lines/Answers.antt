@@ -15,11 +15,11 @@ pub loop-k-init : goal.loop-k-init
 unfolding reads_of
 loop-k-init c =
     let none : c.args.a - c.args.a ≡ 0 = omega arith in
-    rw none (noted-none _ c.requires.read_len.0 c.requires.read_len.1 c.empty-lines.ensures)
+    rw none (noted-none _ c.requires.first_len c.empty-lines.ensures)
 
 pub first_lines_in-requires : goal.first_lines_in-requires
 first_lines_in-requires c =
-    let noted = c.loop-k.invariant in record { read_len = (noted.long-read, noted.long-first); accepted = (c.requires.accepted.0, omega arith, omega (arith, c.requires.accepted.2, accepted-file.block-count c.args.file.now)); geometry_of = c.requires.accepted.3 }
+    let noted = c.loop-k.invariant in record { first_len = noted.long; accepted = (c.requires.accepted.0, omega arith, omega (arith, c.requires.accepted.2, accepted-file.block-count c.args.file.now)); geometry_of = c.requires.accepted.3 }
 
 pub loop-k-preserved : goal.loop-k-preserved
 loop-k-preserved c =

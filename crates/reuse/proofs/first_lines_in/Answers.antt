@@ -12,12 +12,7 @@ use Rattle.reuse.proofs.first_lines_in.Goals as goal
 
 pub loop-j-init : goal.loop-j-init
 loop-j-init c =
-    noted-none _ c.requires.read_len.0 c.requires.read_len.1 c.empty-lines.ensures
-
-pub note-lines-requires : goal.note-lines-requires
-note-lines-requires c =
-    let noted = c.loop-j.invariant in
-    (noted.long-read, noted.long-first, c.line_of.ensures.1)
+    noted-none _ c.requires.first_len c.empty-lines.ensures
 
 pub loop-j-preserved : goal.loop-j-preserved
 loop-j-preserved c =
@@ -32,8 +27,8 @@ loop-j-preserved c =
     let more : take (l.j + 1) xs ≡ take l.j xs ++ (number.result ∷ []) =
     rw add-one (take-suc xs l.j 0 (omega (arith, taken, counted))) ∙ ap (λ (x : ℕ). take l.j xs ++ (x ∷ [])) (sym number.ensures) in
     rw more
-          (noted-append t (take l.j xs) (number.result ∷ []) c.note-lines.ensures.by_index_3 l.invariant
-          (noted_one t number.result line.result (line.ensures.0 t c.requires.geometry_of) c.note-lines.ensures.read_len.0 c.note-lines.ensures.read_len.1 c.note-lines.ensures.by_index c.note-lines.ensures.by_index_2))
+    (noted-append t (take l.j xs) (number.result ∷ []) c.note-lines.ensures.by_index_2 l.invariant
+    (noted_one t number.result line.result (line.ensures.0 t c.requires.geometry_of) c.note-lines.ensures.first_len c.note-lines.ensures.by_index))
 
 pub returns : goal.returns
 returns c =

@@ -1,5 +1,4 @@
 -- `reuse::first_lines_in` meets its contract. The loop's invariant: the reads passed are noted.
-use Prim.Native.Nat.{◌-◌, ◌≤◌}
 use lib.ListN.{take}
 use Rattle.lineset.specs.Members.{members}
 use Rattle.taskfile.specs.File.{task_of, entry_reads}
@@ -8,4 +7,4 @@ use Rattle.reuse.proofs.first_lines_in.Given as goal
 
 abbrev pub invariant-loop-j : goal.invariant-loop-j
 invariant-loop-j l =
-    Noted (task_of l.file) (take l.j (entry_reads l.file l.k)) l.initial.read l.initial.first l.read l.first (members l.lines)
+    Noted (task_of l.file) (take l.j (entry_reads l.file l.k)) l.initial.first l.first (members l.lines)

@@ -16,7 +16,7 @@ use Rattle.taskfile.specs.File.{task_of}
 use Rattle.taskfile.proofs.Accepted as accepted-file
 use Rattle.cacheline.proofs.Below.{line-below}
 use Rattle.reuse.proofs.held_after.Goals as goal
-use Rattle.reuse.proofs.held_after.Goals.{in-Some, in_default, In-Some}
+use Rattle.reuse.proofs.held_after.Goals.{in-Some, in_default}
 
 pub loop-i-init : goal.loop-i-init
 unfolding reads_of
@@ -29,19 +29,9 @@ read_count-reads-requires c =
 pub loop-j-init : goal.loop-j-init
 loop-j-init c = let l = c.loop-i in (l.invariant.0, rw add-zero l.invariant.1)
 
-pub read-number-requires : goal.read-number-requires
-read-number-requires c =
-    record { accepted = (c.requires.0, omega arith, omega (arith, c.requires.1, accepted-file.block-count c.args.file.now)); j_in_bounds = omega arith }
-
--- the line is one of the array
-below : (c : goal.In-Some) → c.in-Some.c < 512
-below c = let line = c.line_of in line-below line.result c.in-Some.c c.in-Some.is line.ensures.1
-
-pub offset_bounds-held-c : goal.offset_bounds-held-c
-offset_bounds-held-c c = omega (arith, below (goal.at.offset_bounds-held-c c).In-Some)
-
-pub bounds-held-c : goal.bounds-held-c
-bounds-held-c c = omega (arith, below (goal.at.bounds-held-c c).In-Some)
+pub read-number-requires-clause-accepted : goal.read-number-requires-clause-accepted
+read-number-requires-clause-accepted c =
+    (c.requires.0, omega arith, omega (arith, c.requires.1, accepted-file.block-count c.args.file.now))
 
 pub loop-j-preserved : goal.loop-j-preserved
 loop-j-preserved c =

@@ -1,5 +1,5 @@
 -- `reuse::held_after` meets its contract. Both loops keep what the lines hold after the reads passed.
-use Prim.Native.Nat.{◌+◌, ◌-◌, ◌≤◌}
+use Prim.Native.Nat.{◌+◌}
 use mathlib.Core.Path.{◌≡◌}
 use lib.ListN.{length, get_or}
 use Rattle.model.specs.declared.Line.TheVariants.{Empty}

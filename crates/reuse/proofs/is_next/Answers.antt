@@ -1,5 +1,5 @@
 -- `reuse::is_next` meets its contract: the next read is of the number, or there is none.
-use mathlib.Core.Path.{sym, ap, ◌∙◌}
+use mathlib.Core.Path.{ap, ◌∙◌}
 use lib.Dec.{eqb}
 use Rattle.std.specs.Option.{option_eq}
 use Rattle.std.specs.Prelude.{Some}

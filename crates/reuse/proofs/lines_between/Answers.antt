@@ -13,16 +13,16 @@ use Rattle.reuse.proofs.lines_between.Goals as goal
 
 pub first_lines-accessed-requires : goal.first_lines-accessed-requires
 first_lines-accessed-requires c =
-    record { read_len = (refl, refl); accepted = (c.requires.0, omega arith, omega arith, c.geometry_of-cache.ensures) }
+    record { first_len = refl; accepted = (c.requires.0, omega arith, omega arith, c.geometry_of-cache.ensures) }
 
 pub first_lines-requires : goal.first_lines-requires
 first_lines-requires c =
-    let noted = c.first_lines-accessed.ensures in record { read_len = (noted.long-read, noted.long-first); accepted = (c.requires.0, omega (arith, c.requires.2, c.block_count.ensures), omega (arith, c.block_count.ensures), c.geometry_of-cache.ensures) }
+    let noted = c.first_lines-accessed.ensures in record { first_len = noted.long; accepted = (c.requires.0, omega (arith, c.requires.2, c.block_count.ensures), omega (arith, c.block_count.ensures), c.geometry_of-cache.ensures) }
 
 pub reread_lines-requires : goal.reread_lines-requires
 reread_lines-requires c =
     let noted = c.first_lines.ensures in
-    (c.held_after-held.ensures.0, noted.long-read, noted.long-first, c.geometry_of-cache.ensures.sound.most)
+    (c.held_after-held.ensures.0, noted.long, c.geometry_of-cache.ensures.sound.most)
 
 pub returns : goal.returns
 unfolding useful

@@ -1,5 +1,5 @@
 -- `reuse::mark_evicted` meets its contract. The loop's invariant: a line is marked if a preempter block passed reads it.
-use Prim.Native.Nat.{ℕ, ◌-◌, ◌≤◌, ◌<◌}
+use Prim.Native.Nat.{ℕ, ◌-◌, ◌<◌}
 use mathlib.Core.Path.{◌≡◌}
 use mathlib.Core.Bool.{false}
 use lib.ListN.{length, get_or}

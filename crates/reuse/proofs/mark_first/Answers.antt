@@ -36,14 +36,13 @@ pub overflow_cast-i : goal.overflow_cast-i
 overflow_cast-i c = omega (arith, (accepted-file.accepted c.args.file.now c.requires.1).preempters-most)
 
 pub mark_reads-requires : goal.mark_reads-requires
-mark_reads-requires c =
-    (
-      omega arith,
-      (
-        c.loop-i.invariant.1,
-        ((c.requires.1, omega arith, omega (arith, c.loop-i.invariant.0, accepted-file.block-count c.args.file.now)), c.requires.2),
-      ),
-    )
+mark_reads-requires c = (
+  omega arith,
+  (
+    c.loop-i.invariant.1,
+    ((c.requires.1, omega arith, omega (arith, c.loop-i.invariant.0, accepted-file.block-count c.args.file.now)), c.requires.2),
+  ),
+)
 
 pub loop-i-preserved : goal.loop-i-preserved
 unfolding touches

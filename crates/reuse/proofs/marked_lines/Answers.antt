@@ -15,9 +15,9 @@ pub loop-c-preserved : goal.loop-c-preserved
 loop-c-preserved c =
     let l = c.loop-c in
     let marks = c.args.marks.now in
-      λ d.
-          c.with_marked-set.ensures d ∙ ap (λ (x : Bool). x || eqb d l.c && get_or marks l.c false) (l.invariant d) ∙
-          one_more (λ e. get_or marks e false) l.c d
+    λ d.
+    c.with_marked-set.ensures d ∙ ap (λ (x : Bool). x || eqb d l.c && get_or marks l.c false) (l.invariant d) ∙
+    one_more (λ e. get_or marks e false) l.c d
 
 pub returns : goal.returns
 returns c =

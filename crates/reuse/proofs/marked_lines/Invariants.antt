@@ -1,5 +1,5 @@
 -- `reuse::marked_lines` meets its contract. The loop's invariant: the set is the marked lines below c.
-use Prim.Native.Nat.{ℕ, ◌-◌, ◌≤◌}
+use Prim.Native.Nat.{ℕ}
 use mathlib.Core.Path.{◌≡◌}
 use mathlib.Core.Bool.{false, ◌&&◌}
 use lib.Dec.{ltb}

@@ -44,9 +44,9 @@ loop-j-preserved c =
     let l = c.loop-j in
     let line = c.line_of-mapping in
     let number = c.read in
-      noted_more (task_of c.args.file.now) (entry_reads c.args.file.now c.args.k) c.args.k c.args.readers.now l.readers c.note_reader.new.readers l.j
-          number.result line.result (omega arith) number.ensures (line.ensures.0 (task_of c.args.file.now) c.requires.geometry_of) c.note_reader.ensures.readers_len c.note_reader.ensures.first_by
-          l.invariant
+    noted_more (task_of c.args.file.now) (entry_reads c.args.file.now c.args.k) c.args.k c.args.readers.now l.readers c.note_reader.new.readers l.j
+    number.result line.result (omega arith) number.ensures (line.ensures.0 (task_of c.args.file.now) c.requires.geometry_of) c.note_reader.ensures.readers_len c.note_reader.ensures.first_by
+    l.invariant
 
 pub returns : goal.returns
 returns c =

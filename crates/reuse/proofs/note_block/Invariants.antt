@@ -1,5 +1,5 @@
 -- `reuse::note_block` meets its contract. The loop's invariant: the lines of the reads passed have a reader.
-use Prim.Native.Nat.{ℕ, ◌-◌, ◌≤◌}
+use Prim.Native.Nat.{ℕ}
 use mathlib.Core.Path.{◌≡◌}
 use mathlib.Core.List.{List}
 use lib.ListN.{length, take}

@@ -26,12 +26,6 @@ below : (c : goal.In-Some) → c.in-Some.c < 512
 below c =
     line-below c.args.mapping c.in-Some.c c.in-Some.is c.requires.1
 
-pub bounds-readers-c : goal.bounds-readers-c
-bounds-readers-c c = below (goal.at.bounds-readers-c c).In-Some
-
-pub bounds-readers-c-in-Some : goal.bounds-readers-c-in-Some
-bounds-readers-c-in-Some c = below (goal.at.bounds-readers-c-in-Some c).In-Some
-
 pub returns-in_default : goal.returns-in_default
 returns-in_default c =
     record { readers_len = c.requires.0; first_by = λ d h. rw (c.in_default.is, and-false) refl }

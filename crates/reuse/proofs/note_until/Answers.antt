@@ -1,7 +1,6 @@
 -- `reuse::note_until` meets its contract. The loop's invariant: the readers are noted up to block i.
 use mathlib.Core.Path.{◌≡◌}
 use native.Mathlib.Omega.{arith}
-use Rattle.model.specs.Task.{block_count}
 use Rattle.taskfile.specs.File.{task_of}
 use Rattle.taskfile.proofs.Accepted as accepted-file
 use Rattle.reuse.proofs.Readers.{noted_more}

@@ -1,5 +1,4 @@
 -- `reuse::note_until` meets its contract. The loop's invariant: the readers are noted up to block i.
-use Prim.Native.Nat.{◌-◌}
 use Rattle.taskfile.specs.File.{task_of}
 use Rattle.reuse.specs.States.{NotedTo}
 use Rattle.reuse.proofs.note_until.Given as goal

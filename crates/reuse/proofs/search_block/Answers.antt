@@ -15,9 +15,6 @@ use Rattle.reuse.proofs.search_block.Invariants.{Passed}
 pub loop-i-init : goal.loop-i-init
 loop-i-init c = left-all _ _
 
-pub read-number-requires : goal.read-number-requires
-read-number-requires c = record { accepted = search rules; j_in_bounds = omega arith }
-
 pub returns-then-lies_on : goal.returns-then-lies_on
 returns-then-lies_on c =
     let file = c.args.file.now in
@@ -37,9 +34,6 @@ first-passed c =
     left-off (on_line (task_of file) c.args.c) (entry_reads file c.args.k) at c.read-number.result (omega arith) c.read-number.ensures
     c.loop-i.invariant (sym (c.lies_on.ensures (task_of file) c.requires.geometry_of) ∙ c.if-lies_on.false)
 
-pub read-second-requires : goal.read-second-requires
-read-second-requires c = record { accepted = search rules; j_in_bounds = omega arith }
-
 pub returns-then-lies_on-2 : goal.returns-then-lies_on-2
 returns-then-lies_on-2 c =
     let file = c.args.file.now in
@@ -57,11 +51,8 @@ loop-i-preserved c =
     let second = c.read-second in
     let next : 2 * (c.loop-i.i + 1) ≡ at + 1 + 1 = omega arith in
     rw next
-          (left-off (on_line (task_of file) c.args.c) (entry_reads file c.args.k) (at + 1) second.result (omega arith) second.ensures
-          (first-passed (goal.at.loop-i-preserved c).Else-lies_on) (sym (c.lies_on-in-loop-i.ensures (task_of file) c.requires.geometry_of) ∙ c.if-lies_on-2.false))
-
-pub read-last-requires : goal.read-last-requires
-read-last-requires c = record { accepted = search rules; j_in_bounds = omega arith }
+    (left-off (on_line (task_of file) c.args.c) (entry_reads file c.args.k) (at + 1) second.result (omega arith) second.ensures
+    (first-passed (goal.at.loop-i-preserved c).Else-lies_on) (sym (c.lies_on-in-loop-i.ensures (task_of file) c.requires.geometry_of) ∙ c.if-lies_on-2.false))
 
 -- all but the last read are passed
 but-one : (c : goal.After-lies_on-then-reads-eq1)

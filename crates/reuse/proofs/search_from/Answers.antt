@@ -20,9 +20,9 @@ block-next file i h = reads-from (task_of file) i h ∙ rw (accepted-file.reads_
 pub loop-i-init : goal.loop-i-init
 loop-i-init c = (omega arith, left-all _ _)
 
-pub search_block-found-requires : goal.search_block-found-requires
-search_block-found-requires c =
-    record { accepted = (c.requires.0, omega arith, omega (arith, accepted-file.block-count c.args.file.now)); geometry_of = c.requires.2 }
+pub search_block-found-requires-clause-accepted : goal.search_block-found-requires-clause-accepted
+search_block-found-requires-clause-accepted c =
+    (c.requires.0, omega arith, omega (arith, accepted-file.block-count c.args.file.now))
 
 pub returns-in-Some : goal.returns-in-Some
 unfolding next_read reads_looked_at

@@ -1,5 +1,5 @@
 -- `reuse::search_from` meets its contract. The loop's invariant: none of the reads of the blocks passed lies on the line.
-use Prim.Native.Nat.{◌-◌, ◌*◌, ◌≤◌}
+use Prim.Native.Nat.{◌*◌, ◌≤◌}
 use lib.ListN.{drop}
 use Rattle.model.specs.Lines.{on_line, reads_of}
 use Rattle.taskfile.specs.File.{task_of}

@@ -1,5 +1,5 @@
 -- `reuse::sum_row` meets its contract. The loop's invariant: the columns passed have the sums of those before them, the others are as they were.
-use Prim.Native.Nat.{ℕ, suc, ◌+◌, ◌-◌, ◌*◌, ◌≤◌, ◌<◌}
+use Prim.Native.Nat.{ℕ, ◌+◌, ◌*◌, ◌<◌}
 use mathlib.Core.Path.{◌≡◌}
 use lib.ListN.{length, get_or}
 use Rattle.reuse.specs.Counts.{row_sum}

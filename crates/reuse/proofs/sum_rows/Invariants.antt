@@ -1,5 +1,5 @@
 -- `reuse::sum_rows` meets its contract. The loop's invariant: the rows passed have their sums, the others are as they were.
-use Prim.Native.Nat.{ℕ, ◌+◌, ◌-◌, ◌*◌, ◌≤◌, ◌<◌}
+use Prim.Native.Nat.{ℕ, ◌+◌, ◌*◌, ◌≤◌, ◌<◌}
 use mathlib.Core.Path.{◌≡◌}
 use lib.ListN.{length, get_or}
 use Rattle.reuse.specs.Counts.{row_sum}

@@ -9,7 +9,6 @@ use native.Mathlib.Omega.{arith}
 use lib.Dec.{eqb, ltb}
 use lib.ListN.{get_or, get_or-replicate}
 use borrow.Author.Tests.{lt-ltb, le-ltb}
-use Rattle.model.specs.Task.{block_count}
 use Rattle.model.specs.Lines.{same_block, next_read, useful}
 use Rattle.model.specs.declared.Line.TheVariants.{Held}
 use Rattle.model.proofs.LineStates.{useful-beyond}

@@ -1,6 +1,6 @@
 -- `reuse::useful_lines` meets its contract. The loop's invariant: the set is the useful lines below
 -- c, and the readers are noted up to block b. No line beyond the cache is useful.
-use Prim.Native.Nat.{ℕ, ◌-◌, ◌≤◌}
+use Prim.Native.Nat.{ℕ, ◌≤◌}
 use mathlib.Core.Path.{◌≡◌}
 use mathlib.Core.Bool.{◌&&◌}
 use lib.Dec.{ltb}

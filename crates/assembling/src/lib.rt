@@ -1,4 +1,4 @@
-// The text of a task, that people write and read: a task file made of one, and one made of a task file.
+// The task file of a text, which people write.
 #![tactic(auto)]
 
 ghost use Rattle.std.specs.Prelude.{◌≡◌, true, List, [], ◌++◌, ℕ, ◌≤◌, ◌<◌, length, get_or, take, drop, is_some, IfSome, IfOk, MatchOption};

@@ -1,4 +1,4 @@
-// The next fitting list of an accepted file of at most 16 basic blocks, by tables of its regions.
+// The next fitting list of an accepted file of at most 16 basic blocks, by a table of its regions.
 #![tactic(auto)]
 
 ghost use Rattle.std.specs.Prelude.{◌≡◌, ◌&&◌, ◌+◌, ◌*◌, ◌^◌, ◌≤◌, ◌<◌};

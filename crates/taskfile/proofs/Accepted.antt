@@ -1,4 +1,4 @@
--- What the answer Accepted says of a file, and the task that an accepted file holds, block by block.
+-- What accepting says of a file, and the task that an accepted file holds, block by block.
 -- Assumes nothing.
 use Rattle.std.specs.Prelude.{None, Option, Some}
 use Prim.Native.Nat.{ℕ, zero, suc, ◌+◌, ◌*◌, ◌/◌, ◌%◌, ◌<◌, ◌≤◌}

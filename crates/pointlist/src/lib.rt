@@ -9,14 +9,12 @@ pub fn wrong_point(points: &[u16], n: usize) -> Option<usize>
     ensures { result ≡ wrong_point n points.now }
 {
     let mut last = 0;
-    let mut i = 0;
-    while i < points.len() {
-        let point = points[i] as usize;
+    for (i, point) in points.iter().enumerate() {
+        let point = *point as usize;
         if point <= last || n <= point {
             return Some(i);
         }
         last = point;
-        i += 1;
     }
     None
 }

@@ -99,6 +99,7 @@ fn left_after_fours(file: &[u8]) -> usize
 {
     let count = file.len() / 512;
     let mut left = left_after_few(file);
+    // No index is counted: what is left falls in fours, and what is then below four is the answer.
     while left >= 4 {
         if !four_right(file, count - left) {
             return left;

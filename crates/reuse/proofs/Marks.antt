@@ -1,7 +1,7 @@
 -- Marks of lines, and numbers beside them: one line more. Assumes nothing.
 use Prim.Native.Nat.{ℕ, zero, suc, ◌<◌}
 use mathlib.Core.Path.{◌≡◌, refl, sym, ap, ◌∙◌}
-use mathlib.Core.Bool.{Bool, true, false, not, cond, ◌&&◌, ◌||◌, or-true, or-false, and-false}
+use mathlib.Core.Bool.{Bool, true, false, cond, ◌&&◌, ◌||◌, or-true, or-false}
 use mathlib.Core.List.{List, [], ◌∷◌}
 use native.Mathlib.Omega.{arith}
 use mathlib.Core.Logic.{by_cases}
@@ -10,16 +10,6 @@ use lib.Dec.{eqb}
 use lib.ListN.{length, get_or, set}
 use lib.Seq.{get_or-set_same, get_or-set_other}
 use borrow.Author.Tests.{eq-eqb, ne_eqb}
-
-pub one-marked : (marks : List Bool) (line d : ℕ) → line < length marks → get_or (set marks line true) d false ≡ (get_or marks d false || eqb d line)
-one-marked marks line d h =
-    by_cases (ℕ_discrete d line) (λ e. rw (e, eq-eqb line line refl, or-true) (get_or-set_same marks line true false h))
-    (λ n. rw (ne_eqb d line n, or-false) (get_or-set_other marks line d true false n))
-
-pub one_number : (xs : List ℕ) (line v d : ℕ) → line < length xs → get_or (set xs line v) d 0 ≡ cond (eqb d line) v (get_or xs d 0)
-one_number xs line v d h =
-    by_cases (ℕ_discrete d line) (λ e. rw (e, eq-eqb line line refl) (get_or-set_same xs line v 0 h))
-    (λ n. rw (ne_eqb d line n) (get_or-set_other xs line d v 0 n))
 
 -- one line more, if it is to be marked
 pub one-mark-if : {A : Type 0} (xs : List A) (line d : ℕ) (n : A) (on : Bool) (v : A) → line < length xs → v ≡ cond on n (get_or xs line n)
@@ -48,15 +38,3 @@ marked-true before after d s hb ha is =
 pub marked-number : (before after : List ℕ) (d n : ℕ) (s : Bool) → d < length before → d < length after → get_or after d n ≡ cond s n (get_or before d n)
     → get_or after d 0 ≡ cond s n (get_or before d 0)
 marked-number before after d n s hb ha is = any-default after d 0 n ha ∙ is ∙ ap (cond s n) (any-default before d n 0 hb)
-
-module _ (marks : List Bool) (line d : ℕ) where
-  -- the line is marked already
-  pub marked-before : get_or marks line false ≡ true → (not (get_or marks d false) && eqb d line) ≡ false
-  marked-before h = by_cases (ℕ_discrete d line) (λ e. rw (e, h) refl) (λ n. rw (ne_eqb d line n) (and-false (not (get_or marks d false))))
-
-  pub marked-twice : get_or marks line false ≡ true → get_or marks d false ≡ (get_or marks d false || eqb d line)
-  marked-twice h = by_cases (ℕ_discrete d line) (λ e. rw (e, h) refl) (λ n. rw (ne_eqb d line n, or-false) refl)
-
-  -- or it is not
-  pub marked-first : get_or marks line false ≡ false → (not (get_or marks d false) && eqb d line) ≡ eqb d line
-  marked-first h = by_cases (ℕ_discrete d line) (λ e. rw (e, h) refl) (λ n. rw (ne_eqb d line n) (and-false (not (get_or marks d false))))

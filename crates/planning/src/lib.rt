@@ -106,7 +106,12 @@ fn choose(
 }
 
 // The plan of the list that the choices lead along.
-fn plan_along(file: &[u8], costs: &[u64; 65], nexts: &[usize; 65], lines: &[u64; 65]) -> Result<Plan, Refusal>
+fn plan_along(
+    file: &[u8],
+    costs: &[u64; 65],
+    nexts: &[usize; 65],
+    lines: &[u64; 65],
+) -> Result<Plan, Refusal>
     requires { IsAccepted file.now × Choices (task_of file.now) costs.now nexts.now lines.now }
     ensures { Planned (task_of file.now) result }
 {

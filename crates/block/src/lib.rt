@@ -8,6 +8,9 @@ ghost use Rattle.block.specs.Bytes.{le, les, field, zeros_between};
 ghost use Rattle.block.specs.Blocks.{numbered, sealed, sealed_blocks, checksum_right, body_right, framed};
 ghost use Rattle.block.specs.Steps.{HashesOf, SealedSoFar};
 
+// Readers and writers of three widths, each a line over the library's arrays of that length: other crates call them by
+// these names, and a function over all widths would be longer than the three.
+
 // The number in two bytes.
 pub fn u16_at(bytes: &[u8], at: usize) -> u16
     requires { at + 2 ≤ length bytes.now }
@@ -102,6 +105,7 @@ pub fn four_checksums_right(a: &[u8], b: &[u8], c: &[u8], d: &[u8]) -> bool
 }
 
 // Whether a block has this number, kind and byte 1, and zeros from end on; the bytes from 2 up to end are free.
+// The kind is a byte of the format: any is compared, and an enum would ask more of callers.
 pub fn body_right(block: &[u8], number: u32, kind: u8, byte_1: u8, end: usize) -> bool
     requires block_len { length block.now ≡ 512 }
     requires le_end { (2 ≤ end) × (end ≤ 504) }

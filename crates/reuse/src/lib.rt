@@ -116,6 +116,7 @@ pub fn useful_lines(file: &[u8], k: usize) -> LineSet
     let cache = cacheline::geometry_of(file);
     let blocks = taskfile::block_count(file);
     let held = held_after(file, cache, k);
+    // A byte for each line, and 0 for no block, since blocks count from 1: an option would be two bytes.
     let mut readers = [0u8; 512];
     let mut lines = LineSet::empty();
     let mut b = k;
@@ -349,6 +350,7 @@ fn mark_reads<T: Copy>(marks: &mut [T; 512], file: &[u8], cache: Geometry, k: us
 
 // Marks each line with the first preempter that touches it, from 0; the array is lent with 32 everywhere, which stays where there is none. The
 // preempters come last to first, so that each overwrites those after it.
+// A mark is one byte a line, and its remainder by 32 is an index at once; an option would be two bytes.
 pub fn mark_first(marks: &mut [u8; 512], file: &[u8], cache: Geometry)
     requires { (marks.old ≡ replicate 512 32) × IsAccepted file.now × GeometryOf (task_of file.now) cache }
     ensures { FirstMarks (task_of file.now) marks.new }

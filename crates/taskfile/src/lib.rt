@@ -256,7 +256,7 @@ fn armed_byte(block: &[u8]) -> u8
     (block[1] == 1) as u8
 }
 
-// Whether a block has this number, kind and byte 1, and at most 124 reads.
+// Whether a block has this number, kind and byte 1, and at most 124 reads. The kind is the byte that `block::body_right` takes.
 fn entry_right(block: &[u8], number: usize, kind: u8, byte_1: u8) -> bool
     requires { (length block.now ≡ 512) × (number < 2 ^ 32) }
     ensures { result ≡ entry_right number kind byte_1 block.now }

@@ -35,7 +35,7 @@ pub struct Settings {
 }
 
 // What is known of a text so far: how many bytes of its last line there are, or 11 where a line is malformed; the address that the digits
-// of that line say; the records before it.
+// of that line say; the records before it. The fields are public, so a malformed line stays a column.
 #[derive(Clone, Copy)]
 pub struct Scan {
     pub column: u32,

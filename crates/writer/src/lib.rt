@@ -48,7 +48,7 @@ pub fn put_read(block: &mut [u8], j: usize, m: u32)
     block::put_u32(block, 8 + 4 * j, m);
 }
 
-// Stores what else stands in a block whose numbers are stored.
+// Stores what else stands in a block whose numbers are stored. The kind is the byte that is stored.
 fn close_entry(block: &mut [u8], number: u32, kind: u8, byte_1: u8, x: u32, count: usize)
     requires block_len { length block.old ≡ 512 }
     requires count_bound { count ≤ 124 }

@@ -48,9 +48,8 @@ where
     T::Error: Drop,
 {
     let mut numbers = [T::default(); N];
-    for i in 0..N {
-        let number = argument(rt, i + 1, u64::MAX)?;
-        numbers[i] = T::try_from(number).ok()?;
+    for (i, number) in numbers.iter_mut().enumerate() {
+        *number = T::try_from(argument(rt, i + 1, u64::MAX)?).ok()?;
     }
     if argument_count(rt) == N {
         Some(numbers)
@@ -90,7 +89,7 @@ pub fn first<T>(items: &[T], count: usize) -> &[T]
     items.get(..count).unwrap_or(items)
 }
 
-// Reads until a buffer is full or the input ends, and answers how many bytes stand in it then.
+// Reads until a buffer is full or the input ends, and answers how many bytes stand in it then. std's `read_to_end` would need the heap.
 fn read_full<R: Read>(input: &mut R, buffer: &mut [u8]) -> io::Result<usize>
     ensures read { ReadsAtMost result buffer.new }
     ensures kept { length buffer.new ≡ length buffer.old }

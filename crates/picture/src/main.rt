@@ -14,9 +14,10 @@ mod drawing;
 use desk::Page;
 use drawing::{Block, Limits};
 use model::{Header, Plan, Refusal};
+use report::Summary;
 use std::cmp::max;
+use std::io;
 use std::io::Write;
-use std::{fmt, io};
 
 // A region of the plan: its edges, its length, and what of it are reloads and the switch.
 #[derive(Clone, Copy)]
@@ -25,26 +26,6 @@ struct Region {
     to: usize,
     length: u64,
     cost: u64,
-}
-
-// The first line that `plan` prints of a plan.
-#[derive(Clone, Copy)]
-struct Line {
-    plan: Plan,
-}
-
-impl fmt::Display for Line {
-    fn fmt<W: fmt::Write>(&self, f: &mut fmt::Formatter<W>) -> fmt::Result {
-        let Plan {
-            blocks,
-            id,
-            count,
-            lines,
-            cost,
-            points: _,
-        } = self.plan;
-        write!(f, "task {id} blocks {blocks} points {count} lines {lines} cost {cost}")
-    }
 }
 
 // The edge at which region i of a list starts.
@@ -90,12 +71,11 @@ fn longest(file: &[u8], points: &[u16], lines: &[u32; 64]) -> u64
 fn second_between(file: &[u8], header: Header, a: usize, b: usize) -> Option<u64>
     requires { IsAccepted file.now × (b ≤ block_count (task_of file.now)) }
 {
-    for i in a..b {
-        if taskfile::armed(file, i + 1) {
-            return Some(header.second_limit as u64);
-        }
+    if (a..b).any(|i| taskfile::armed(file, i + 1)) {
+        Some(header.second_limit as u64)
+    } else {
+        None
     }
-    None
 }
 
 // The shade of the next block: another, unless this one has no ticks and is not seen.
@@ -177,11 +157,11 @@ fn collect_regions(
 }
 
 // What stands above the bars: the title, for a browser's own use, and the same line to read.
-fn collect_head(page: &mut impl Write, line: Line, rows: u64) -> io::Result<()> {
+fn collect_head(page: &mut impl Write, summary: Summary, rows: u64) -> io::Result<()> {
     drawing::begin_picture(page, rows)?;
-    writeln!(page, "<title>{line}</title>")?;
+    writeln!(page, "<title>{summary}</title>")?;
     drawing::collect_style(page)?;
-    writeln!(page, r#"<text class="task" x="80" y="30">{line}</text>"#)?;
+    writeln!(page, r#"<text class="task" x="80" y="30">{summary}</text>"#)?;
     drawing::collect_legend(page)
 }
 
@@ -198,7 +178,7 @@ fn collect_plan(page: &mut impl Write, file: &[u8], plan: Plan, points: &[u16]) 
     let mut lines = [0u32; 64];
     pricing::count_lines(file, points, &mut lines);
     let span = drawing::span_of(longest(file, points, &lines), limits);
-    collect_head(page, Line { plan }, rows)?;
+    collect_head(page, Summary::from(plan), rows)?;
     drawing::collect_scale(page, span, rows)?;
     collect_regions(page, file, points, &lines, span)?;
     drawing::collect_limits(page, limits, span, rows)?;

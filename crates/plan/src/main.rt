@@ -8,18 +8,15 @@ ghost use Rattle.model.specs.Planning.{chosen};
 ghost use Rattle.taskfile.specs.File.{IsAccepted, task_of};
 
 use model::Plan;
-use pricing::Price;
+use report::Summary;
 use std::io;
 
 fn print_plan(rt: &impl Print, file: &[u8], plan: Plan) -> io::Result<()>
     requires { IsAccepted file.now × (wrong_point (block_count (task_of file.now)) (chosen plan) ≡ None) }
 {
     let points = plan.points;
-    let price = Price {
-        lines: plan.lines as u64,
-        cost: plan.cost,
-    };
-    report::print_list(rt, file, desk::first(&points, plan.count as usize), price)
+    let listed = desk::first(&points, plan.count as usize);
+    report::print_list(rt, file, listed, Summary::from(plan))
 }
 
 fn print_answer(rt: &impl Print, file: &[u8]) -> io::Result<()> {

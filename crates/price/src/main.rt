@@ -7,19 +7,23 @@ ghost use Rattle.model.specs.Task.{block_count};
 ghost use Rattle.model.specs.Lists.{wrong_point};
 ghost use Rattle.taskfile.specs.File.{IsAccepted, task_of};
 
-use pricing::{ChargedPrice, Price};
+use pricing::ChargedPrice;
+use report::Summary;
 use std::io;
 
 // The price of a well-formed list.
-fn print_price(rt: &impl Print, file: &[u8], points: &[u16], charged: ChargedPrice) -> io::Result<()>
+fn print_price(rt: &impl Print, file: &[u8], points: &[u16], price: ChargedPrice) -> io::Result<()>
     requires { IsAccepted file.now × (wrong_point (block_count (task_of file.now)) points.now ≡ None) }
 {
-    let price = Price {
-        lines: charged.lines,
-        cost: charged.cost,
+    let summary = Summary {
+        id: taskfile::header(file).id,
+        blocks: taskfile::block_count(file),
+        points: points.len(),
+        lines: price.lines,
+        cost: price.cost,
     };
-    report::print_list(rt, file, points, price)?;
-    report::print_charges(rt, file, charged.charges)
+    report::print_list(rt, file, points, summary)?;
+    report::print_charges(rt, file, price.charges)
 }
 
 fn print_answer(rt: &impl Print, file: &[u8], points: &[u16]) -> io::Result<()> {

@@ -6,8 +6,43 @@ ghost use Rattle.model.specs.Task.{block_count};
 ghost use Rattle.model.specs.Lists.{wrong_point};
 ghost use Rattle.taskfile.specs.File.{IsAccepted, task_of};
 
-use pricing::Price;
-use std::io;
+use model::Plan;
+use std::{fmt, io};
+
+// What is said of a list of points in one line: its task's id and N, how many points it has, its lines and its cost.
+#[derive(Clone, Copy)]
+pub struct Summary {
+    pub id: u32,
+    pub blocks: usize,
+    pub points: usize,
+    pub lines: u64,
+    pub cost: u64,
+}
+
+impl From<Plan> for Summary {
+    fn from(plan: Plan) -> Summary {
+        Summary {
+            id: plan.id,
+            blocks: plan.blocks as usize,
+            points: plan.count as usize,
+            lines: plan.lines as u64,
+            cost: plan.cost,
+        }
+    }
+}
+
+impl fmt::Display for Summary {
+    fn fmt<W: fmt::Write>(&self, f: &mut fmt::Formatter<W>) -> fmt::Result {
+        let Summary {
+            id,
+            blocks,
+            points,
+            lines,
+            cost,
+        } = *self;
+        write!(f, "task {id} blocks {blocks} points {points} lines {lines} cost {cost}")
+    }
+}
 
 // The regions that points cut an accepted file's task into.
 fn print_regions(rt: &impl Print, file: &[u8], points: &[u16]) -> io::Result<()>
@@ -26,16 +61,16 @@ fn print_regions(rt: &impl Print, file: &[u8], points: &[u16]) -> io::Result<()>
     Ok(())
 }
 
-// A well-formed list of points of an accepted file: the list's lines and cost, and each of its regions.
-pub fn print_list(rt: &impl Print, file: &[u8], points: &[u16], price: Price) -> io::Result<()>
+// A well-formed list of points of an accepted file: what is said of it, and each of its regions.
+pub fn print_list(
+    rt: &impl Print,
+    file: &[u8],
+    points: &[u16],
+    summary: Summary,
+) -> io::Result<()>
     requires { IsAccepted file.now × (wrong_point (block_count (task_of file.now)) points.now ≡ None) }
 {
-    let id = taskfile::header(file).id;
-    let n = taskfile::block_count(file);
-    let count = points.len();
-    let lines = price.lines;
-    let cost = price.cost;
-    println!(rt; "task {id} blocks {n} points {count} lines {lines} cost {cost}")?;
+    println!(rt; "{summary}")?;
     print_regions(rt, file, points)
 }
 

@@ -15,7 +15,6 @@ use desk::Page;
 use drawing::{Block, Limits};
 use model::{Header, Plan, Refusal};
 use report::Summary;
-use std::cmp::max;
 use std::io;
 use std::io::Write;
 
@@ -60,22 +59,16 @@ fn region_at(file: &[u8], points: &[u16], lines: &[u32; 64], i: usize) -> Region
 fn longest(file: &[u8], points: &[u16], lines: &[u32; 64]) -> u64
     requires { IsAccepted file.now × (wrong_point (block_count (task_of file.now)) points.now ≡ None) × Loads (task_of file.now) points.now lines.now }
 {
-    let mut most = 0;
-    for i in 0..points.len() + 1 {
-        most = max(most, region_at(file, points, lines, i).length);
-    }
-    most
+    let lengths = (0..points.len() + 1).map(|i| region_at(file, points, lines, i).length);
+    lengths.max().unwrap_or(0)
 }
 
 // The second limit, if the sampler is armed in one of the blocks after edge a up to edge b.
 fn second_between(file: &[u8], header: Header, a: usize, b: usize) -> Option<u64>
     requires { IsAccepted file.now × (b ≤ block_count (task_of file.now)) }
 {
-    if (a..b).any(|i| taskfile::armed(file, i + 1)) {
-        Some(header.second_limit as u64)
-    } else {
-        None
-    }
+    let armed = (a..b).any(|i| taskfile::armed(file, i + 1));
+    armed.then_some(header.second_limit as u64)
 }
 
 // The shade of the next block: another, unless this one has no ticks and is not seen.

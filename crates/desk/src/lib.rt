@@ -41,9 +41,7 @@ pub fn argument(rt: &impl Env, i: usize, most: u64) -> Option<u64>
 }
 
 // The numbers that the arguments give, if they are as many as asked for, and each is one of the type.
-pub fn arguments<T: TryFrom<u64> + Default + Copy, const N: usize>(
-    rt: &impl Env,
-) -> Option<[T; N]>
+pub fn arguments<T: TryFrom<u64> + Default + Copy, const N: usize>(rt: &impl Env) -> Option<[T; N]>
 where
     T::Error: Drop,
 {
@@ -61,12 +59,9 @@ where
 // How many arguments the program was given.
 pub fn argument_count(rt: &impl Env) -> usize {
     let mut text = [0u8; 1];
-    for i in 0..usize::MAX {
-        if let Err(FillError::NotPresent) = rt.arg(i + 1, &mut text) {
-            return i;
-        }
-    }
-    usize::MAX
+    (1..usize::MAX)
+        .position(|i| matches!(rt.arg(i, &mut text), Err(FillError::NotPresent)))
+        .unwrap_or(usize::MAX)
 }
 
 // Puts the points that the arguments give into a list, and answers those; nothing where an argument is no number of two bytes. A well-formed list has
@@ -215,10 +210,8 @@ pub fn print_points(rt: &impl Print, points: &[u16]) -> io::Result<()> {
 
 // The lines of a set, rising, each after a space.
 pub fn print_lines(rt: &impl Print, set: LineSet) -> io::Result<()> {
-    for line in 0..512 {
-        if set.contains(line) {
-            print!(rt; " {line}")?;
-        }
+    for line in (0..512).filter(|line| set.contains(*line)) {
+        print!(rt; " {line}")?;
     }
     Ok(())
 }

@@ -41,7 +41,12 @@ struct Extent {
 
 impl fmt::Display for Extent {
     fn fmt<W: fmt::Write>(&self, f: &mut fmt::Formatter<W>) -> fmt::Result {
-        write!(f, r#"x="{}" width="{}""#, Place(self.left), Place(self.width))
+        write!(
+            f,
+            r#"x="{}" width="{}""#,
+            Place(self.left),
+            Place(self.width)
+        )
     }
 }
 
@@ -205,7 +210,13 @@ fn collect_tick(page: &mut impl Write, tick: u64, span: u64, bottom: u64) -> io:
 }
 
 // The numbers of the scale from 0 to the last, so many ticks apart.
-fn collect_ticks(page: &mut impl Write, last: u64, step: u64, span: u64, bottom: u64) -> io::Result<()>
+fn collect_ticks(
+    page: &mut impl Write,
+    last: u64,
+    step: u64,
+    span: u64,
+    bottom: u64,
+) -> io::Result<()>
     requires { (last ≤ 4398046511104) × (1 ≤ step) × (step ≤ 8796093022208) × (bottom ≤ 1280) }
 {
     for tick in (0..last + 1).step_by(step as usize) {
@@ -219,17 +230,23 @@ pub fn collect_scale(page: &mut impl Write, span: u64, rows: u64) -> io::Result<
     let bottom = rows_height(rows);
     let last = min(span, MOST_TICKS);
     let below = bottom + 14;
+    writeln!(page, r#"<g class="scale" transform="translate(80,113)">"#)?;
+    collect_ticks(page, last, step_of(span), span, bottom)?;
     writeln!(
         page,
-        r#"<g class="scale" transform="translate(80,113)">"#
+        r#"<text class="small" x="840" y="{below}">ticks</text>"#
     )?;
-    collect_ticks(page, last, step_of(span), span, bottom)?;
-    writeln!(page, r#"<text class="small" x="840" y="{below}">ticks</text>"#)?;
     writeln!(page, "</g>")
 }
 
 // Row i: the region from edge a to edge b, with its edges on the left and its length on the right. Its parts are to follow.
-pub fn begin_row(page: &mut impl Write, i: usize, a: usize, b: usize, length: u64) -> io::Result<()> {
+pub fn begin_row(
+    page: &mut impl Write,
+    i: usize,
+    a: usize,
+    b: usize,
+    length: u64,
+) -> io::Result<()> {
     let top = row_top(i as u64) + 3;
     writeln!(
         page,
@@ -277,7 +294,10 @@ fn collect_label(page: &mut impl Write, k: usize, extent: Extent) -> io::Result<
         return Ok(());
     }
     let middle = Place(extent.left + extent.width / 2);
-    write!(page, r#"<text class="number" x="{middle}" y="12">{k}</text>"#)
+    write!(
+        page,
+        r#"<text class="number" x="{middle}" y="12">{k}</text>"#
+    )
 }
 
 pub fn collect_block(page: &mut impl Write, block: Block, span: u64) -> io::Result<()> {
@@ -313,7 +333,10 @@ pub fn collect_second(page: &mut impl Write, limit: u64, span: u64) -> io::Resul
         return Ok(());
     }
     let place = Place(place_of(limit, span));
-    writeln!(page, r#"<line class="Q2" x1="{place}" x2="{place}" y1="-3" y2="17"/>"#)
+    writeln!(
+        page,
+        r#"<line class="Q2" x1="{place}" x2="{place}" y1="-3" y2="17"/>"#
+    )
 }
 
 // A limit's name and number: beside its line, or where the scale ends if the limit is beyond, and then it says so.
@@ -339,15 +362,20 @@ fn collect_line(page: &mut impl Write, limit: u64, span: u64, rows: u64) -> io::
     }
     let place = Place(place_of(limit, span));
     let bottom = rows_height(rows);
-    writeln!(page, r#"<line class="Q" x1="{place}" x2="{place}" y1="-20" y2="{bottom}"/>"#)
+    writeln!(
+        page,
+        r#"<line class="Q" x1="{place}" x2="{place}" y1="-20" y2="{bottom}"/>"#
+    )
 }
 
 // The limit's line and the names of both.
-pub fn collect_limits(page: &mut impl Write, limits: Limits, span: u64, rows: u64) -> io::Result<()> {
-    writeln!(
-        page,
-        r#"<g class="limits" transform="translate(80,113)">"#
-    )?;
+pub fn collect_limits(
+    page: &mut impl Write,
+    limits: Limits,
+    span: u64,
+    rows: u64,
+) -> io::Result<()> {
+    writeln!(page, r#"<g class="limits" transform="translate(80,113)">"#)?;
     collect_line(page, limits.first, span, rows)?;
     write!(page, r#"<text y="-24" class="small name"#)?;
     collect_name(page, "Q", limits.first, span)?;

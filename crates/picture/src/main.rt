@@ -77,7 +77,13 @@ fn shade_after(dark: bool, ticks: u64) -> bool {
 }
 
 // The blocks after edge a up to edge b.
-fn collect_blocks(page: &mut impl Write, file: &[u8], a: usize, b: usize, span: u64) -> io::Result<()>
+fn collect_blocks(
+    page: &mut impl Write,
+    file: &[u8],
+    a: usize,
+    b: usize,
+    span: u64,
+) -> io::Result<()>
     requires { IsAccepted file.now × (b ≤ block_count (task_of file.now)) }
 {
     let mut dark = false;
@@ -123,7 +129,13 @@ fn collect_region(
     let reloaded = length.saturating_sub(switch);
     drawing::begin_row(page, i, from, to, length)?;
     collect_blocks(page, file, from, to, span)?;
-    drawing::collect_cost(page, "reloads", reloaded.saturating_sub(reloads), reloads, span)?;
+    drawing::collect_cost(
+        page,
+        "reloads",
+        reloaded.saturating_sub(reloads),
+        reloads,
+        span,
+    )?;
     drawing::collect_cost(page, "switch", reloaded, switch, span)?;
     if let Some(second) = second_between(file, header, from, to) {
         drawing::collect_second(page, second, span)?;
@@ -183,12 +195,19 @@ fn draw_plan(rt: &impl Print, file: &[u8], plan: Plan) -> io::Result<()>
 {
     let points = plan.points;
     let mut page = Page::new(rt);
-    collect_plan(&mut page, file, plan, desk::first(&points, plan.count as usize))?;
+    collect_plan(
+        &mut page,
+        file,
+        plan,
+        desk::first(&points, plan.count as usize),
+    )?;
     page.flush()
 }
 
 fn draw_refusal(rt: &impl Print, refusal: Refusal) -> io::Result<()> {
-    println!(rt; r#"<svg xmlns="http://www.w3.org/2000/svg" width="300" height="40" font-family="sans-serif">"#)?;
+    println!(rt;
+        r#"<svg xmlns="http://www.w3.org/2000/svg" width="300" height="40" font-family="sans-serif">"#
+    )?;
     println!(rt; r##"<rect width="100%" height="100%" fill="#fff"/>"##)?;
     println!(rt; r#"<text x="20" y="26">{refusal}</text>"#)?;
     println!(rt; "</svg>")

@@ -65,13 +65,7 @@ fn store_into(plan: Plan, n: usize) -> Result<(), Refusal>
 }
 
 // Stores a plan with these first three entries.
-fn store(
-    rt: &impl Print,
-    case: &str,
-    blocks: u16,
-    count: u16,
-    first: [u16; 3],
-) -> io::Result<()> {
+fn store(rt: &impl Print, case: &str, blocks: u16, count: u16, first: [u16; 3]) -> io::Result<()> {
     show(rt, case, store_into(plan(blocks, count, first), 512))
 }
 
@@ -211,11 +205,7 @@ fn frames(rt: &impl Print) -> io::Result<()> {
     show(rt, "read 513 bytes", read_zeros(513))?;
     show(rt, "read 512 zeros", read_zeros(512))?;
     show(rt, "read with byte 8 changed", read_changed(right(), 8))?;
-    show(
-        rt,
-        "read with byte 511 changed",
-        read_changed(right(), 511),
-    )?;
+    show(rt, "read with byte 511 changed", read_changed(right(), 511))?;
     read(rt, "read as stored", 20, 1)
 }
 
@@ -263,5 +253,9 @@ fn main(rt: HostRuntime) -> io::Result<()> {
     free_fields(&rt)?;
     points(&rt)?;
     show_plan(&rt, "stored and read", round_trip(right()).unwrap_or(NONE))?;
-    show_plan(&rt, "refused and read", round_trip(with_last()).unwrap_or(NONE))
+    show_plan(
+        &rt,
+        "refused and read",
+        round_trip(with_last()).unwrap_or(NONE),
+    )
 }

@@ -40,7 +40,10 @@ impl fmt::Display for Summary {
             lines,
             cost,
         } = *self;
-        write!(f, "task {id} blocks {blocks} points {points} lines {lines} cost {cost}")
+        write!(
+            f,
+            "task {id} blocks {blocks} points {points} lines {lines} cost {cost}"
+        )
     }
 }
 
@@ -62,12 +65,7 @@ fn print_regions(rt: &impl Print, file: &[u8], points: &[u16]) -> io::Result<()>
 }
 
 // A well-formed list of points of an accepted file: what is said of it, and each of its regions.
-pub fn print_list(
-    rt: &impl Print,
-    file: &[u8],
-    points: &[u16],
-    summary: Summary,
-) -> io::Result<()>
+pub fn print_list(rt: &impl Print, file: &[u8], points: &[u16], summary: Summary) -> io::Result<()>
     requires { IsAccepted file.now × (wrong_point (block_count (task_of file.now)) points.now ≡ None) }
 {
     println!(rt; "{summary}")?;

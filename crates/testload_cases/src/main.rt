@@ -21,7 +21,9 @@ fn print_case(rt: &impl Print, numbers: [u32; 6], length: usize) -> io::Result<(
     requires { length ≤ 65536 }
 {
     let [seed, blocks, preempters, lines, limit, reload] = numbers;
-    print!(rt; "seed {seed} blocks {blocks} preempters {preempters} lines {lines} limit {limit} reload {reload} bytes {length}: ")?;
+    print!(rt;
+        "seed {seed} blocks {blocks} preempters {preempters} lines {lines} limit {limit} reload {reload} bytes {length}: "
+    )?;
     let mut out = [0u8; 65536];
     print_answer(rt, numbers, &mut out[..length])
 }

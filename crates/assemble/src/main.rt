@@ -18,15 +18,15 @@ fn text_buffer() -> [u8; 262145]
 fn print_file(rt: &(impl Print + Eprint), text: &[u8]) -> io::Result<()> {
     let mut file = [0u8; 49664];
     match assembling::assemble(text, &mut file) {
-        Ok(length) => desk::print_page(rt, &file, length),
-        Err(refusal) => desk::report_refusal(rt, refusal, refusal.place()),
+        Ok(length) => rt.write_all(desk::first(&file, length)),
+        Err(refusal) => eprintln!(rt; "{refusal}"),
     }
 }
 
 fn print_usage(rt: &impl Eprint) -> io::Result<()> {
     desk::print_usage(
         rt,
-        b"assemble < TEXT > FILE   TEXT: the text of a task, at most 262144 bytes; FILE: its task file",
+        "assemble < TEXT > FILE   TEXT: the text of a task, at most 262144 bytes; FILE: its task file",
     )
 }
 

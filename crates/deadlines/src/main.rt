@@ -45,17 +45,16 @@ fn read_set(text: &[u8]) -> Option<TaskSet> {
 
 fn print_answer(rt: &impl Print, answer: Result<Option<u32>, Refusal>) -> io::Result<()> {
     match answer {
-        Ok(None) => desk::print(rt, b"yes")?,
-        Ok(Some(t)) => desk::print_field(rt, b"no at ", t as u64)?,
-        Err(refusal) => return desk::print_refusal(rt, refusal),
+        Ok(None) => println!(rt; "yes"),
+        Ok(Some(t)) => println!(rt; "no at {t}"),
+        Err(refusal) => println!(rt; "{refusal}"),
     }
-    desk::end_line(rt)
 }
 
 fn print_usage(rt: &impl Eprint) -> io::Result<()> {
     desk::print_usage(
         rt,
-        b"deadlines HORIZON < SET   HORIZON: ticks, 0 to 16777215; SET: a line of four numbers for each of 1 to 16 tasks, its execution time, period, deadline and longest region, in ticks; less than 65536 bytes",
+        "deadlines HORIZON < SET   HORIZON: ticks, 0 to 16777215; SET: a line of four numbers for each of 1 to 16 tasks, its execution time, period, deadline and longest region, in ticks; less than 65536 bytes",
     )
 }
 

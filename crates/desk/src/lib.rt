@@ -2,33 +2,24 @@
 // call answers its error, and what was read or printed before stays so.
 #![tactic(auto)]
 
-ghost use Rattle.std.specs.Prelude.{◌≡◌, ◌+◌, ◌≤◌, length, take, IfOk};
+ghost use Rattle.std.specs.Prelude.{◌≡◌, ◌+◌, ◌≤◌, length, take, IfOk, IfSome};
 ghost use Rattle.std.specs.Io.{ReadsAtMost};
 ghost use Rattle.decimals.specs.Decimals.{AtMost};
 
-use itoa::Buffer;
+use arrayvec::ArrayVec;
 use lineset::LineSet;
 use model::Refusal;
+use std::cmp::min;
 use std::env::FillError;
-use std::io::{Error, ErrorKind, Read};
+use std::io::{Error, ErrorKind, Read, Write};
 use std::rt::{Env, Files};
 use std::{fs, io, str};
-
-// A file in a lent buffer: how many bytes it has, 0 where there is no such file.
-#[derive(Clone, Copy)]
-pub struct FileRead {
-    pub found: bool,
-    pub count: usize,
-}
 
 // Puts argument i at the start of a text, and answers how long it is; 0 where it is missing or longer than the text.
 fn fill_argument(rt: &impl Env, i: usize, text: &mut [u8]) -> usize
     ensures { result ≤ length text.new }
 {
-    match rt.arg(i, text) {
-        Ok(count) => count,
-        Err(_) => 0,
-    }
+    rt.arg(i, text).unwrap_or(0)
 }
 
 // Argument i as a number, or the bound where it is more.
@@ -46,70 +37,54 @@ pub fn argument(rt: &impl Env, i: usize, most: u64) -> Option<u64>
 {
     let mut text = [0u8; 4096];
     let n = fill_argument(rt, i, &mut text);
-    let Some(number) = decimals::decimal_of(&text[..n]) else {
-        return None;
-    };
-    if most < number {
-        return None;
-    }
-    Some(number)
+    decimals::decimal_of(&text[..n]).filter(|number| *number <= most)
 }
 
-// Puts the numbers that the arguments give into a list, and answers whether they are numbers of at most so much, and as many as the list holds.
-pub fn arguments(rt: &impl Env, numbers: &mut [u64], most: u64) -> bool {
-    for i in 0..numbers.len() {
-        let Some(number) = argument(rt, i + 1, most) else {
-            return false;
-        };
-        numbers[i] = number;
+// The numbers that the arguments give, if they are as many as asked for, and each is one of the type.
+pub fn arguments<T: TryFrom<u64> + Default + Copy, const N: usize>(rt: &impl Env) -> Option<[T; N]>
+where
+    T::Error: Drop,
+{
+    let mut numbers = [T::default(); N];
+    for (i, number) in numbers.iter_mut().enumerate() {
+        *number = T::try_from(argument(rt, i + 1, u64::MAX)?).ok()?;
     }
-    argument_count(rt) == numbers.len()
+    if argument_count(rt) == N {
+        Some(numbers)
+    } else {
+        None
+    }
 }
 
 // How many arguments the program was given.
 pub fn argument_count(rt: &impl Env) -> usize {
     let mut text = [0u8; 1];
-    for i in 0..usize::MAX {
-        if let Err(FillError::NotPresent) = rt.arg(i + 1, &mut text) {
-            return i;
-        }
-    }
-    usize::MAX
+    (1..usize::MAX)
+        .position(|i| matches!(rt.arg(i, &mut text), Err(FillError::NotPresent)))
+        .unwrap_or(usize::MAX)
 }
 
-// Puts the points that the arguments give into a list, and answers how many it has; nothing where an argument is no number of two bytes. A
-// well-formed list has at most 63 points, so the first 64 decide at which of them a longer list is refused.
-pub fn read_points(rt: &impl Env, points: &mut [u16; 64]) -> Option<u64>
-    ensures { AtMost 64 result }
-{
+// Puts the points that the arguments give into a list, and answers those; nothing where an argument is no number of two bytes. A well-formed list has
+// at most 63 points, so the first 64 decide at which of them a longer list is refused.
+pub fn read_points<'a>(rt: &impl Env, points: &'a mut [u16; 64]) -> Option<&'a [u16]> {
     let count = argument_count(rt);
     for i in 0..count {
-        let Some(point) = argument(rt, i + 1, 65535) else {
-            return None;
-        };
+        let point = argument(rt, i + 1, 65535)?;
         if i < 64 {
             points[i] = point as u16;
         }
     }
-    if count < 64 {
-        Some(count as u64)
-    } else {
-        Some(64)
-    }
+    Some(&points[..min(count, 64)])
 }
 
-// The first points of a list; all where it has no more.
-pub fn first(points: &[u16], count: usize) -> &[u16]
-    ensures { result.now ≡ take count points.now }
+// The first items of a list; all where it has no more.
+pub fn first<T>(items: &[T], count: usize) -> &[T]
+    ensures { result.now ≡ take count items.now }
 {
-    if count <= points.len() {
-        &points[..count]
-    } else {
-        points
-    }
+    items.get(..count).unwrap_or(items)
 }
 
-// Reads until a buffer is full or the input ends, and answers how many bytes stand in it then.
+// Reads until a buffer is full or the input ends, and answers how many bytes stand in it then. std's `read_to_end` would need the heap.
 fn read_full<R: Read>(input: &mut R, buffer: &mut [u8]) -> io::Result<usize>
     ensures read { ReadsAtMost result buffer.new }
     ensures kept { length buffer.new ≡ length buffer.old }
@@ -147,27 +122,25 @@ fn read_file(rt: &impl Files, name: &[u8], buffer: &mut [u8]) -> io::Result<usiz
     read_full(&mut file, buffer)
 }
 
-// Reads the file that argument i names into a buffer, or says on standard error why it is not read. The error is that of standard error.
+// Reads the file that argument i names into a buffer, and answers how many bytes; or says on standard error why it is not read, and answers nothing. The
+// error is that of standard error.
 pub fn read_named(
     rt: &(impl Env + Files + Eprint),
     i: usize,
     buffer: &mut [u8],
-) -> io::Result<FileRead>
-    ensures in_bounds { IfOk result (λ read. read.count ≤ length buffer.new) }
-    ensures prefix { IfOk result (λ read. read.count ≡ length (take read.count buffer.new)) }
+) -> io::Result<Option<usize>>
+    ensures in_bounds { IfOk result (λ read. IfSome read (λ count. count ≤ length buffer.new)) }
+    ensures prefix { IfOk result (λ read. IfSome read (λ count. count ≡ length (take count buffer.new))) }
     ensures kept { length buffer.new ≡ length buffer.old }
 {
     let mut name = [0u8; 4096];
     let n = fill_argument(rt, i, &mut name);
     match read_file(rt, &name[..n], buffer) {
-        Ok(count) => Ok(FileRead { found: true, count }),
+        Ok(count) => Ok(Some(count)),
         Err(error) => {
             report(rt, &name[..n])?;
             eprintln!(rt; ": {error}")?;
-            Ok(FileRead {
-                found: false,
-                count: 0,
-            })
+            Ok(None)
         }
     }
 }
@@ -180,116 +153,78 @@ fn report(rt: &impl Eprint, bytes: &[u8]) -> io::Result<()> {
     }
 }
 
-pub fn print(rt: &impl Print, text: &[u8]) -> io::Result<()> {
-    rt.write_all(text)
-}
-
-pub fn end_line(rt: &impl Print) -> io::Result<()> {
-    print(rt, b"\n")
-}
-
 pub fn print_argument(rt: &(impl Env + Print), i: usize) -> io::Result<()> {
     let mut text = [0u8; 4096];
     let n = fill_argument(rt, i, &mut text);
-    print(rt, &text[..n])
+    rt.write_all(&text[..n])
 }
 
-// A name and a number.
-pub fn print_field(rt: &impl Print, name: &[u8], n: u64) -> io::Result<()> {
-    print(rt, name)?;
-    rt.print(n)
+// Text that is collected before it is written: in pieces of at most so many bytes, but for text that is longer than that and is written by itself.
+// std's `BufWriter` would need the heap.
+#[derive(Drop)]
+pub struct Page<'a, P> {
+    out: &'a P,
+    text: ArrayVec<u8, 4096>,
 }
 
-// A page is text that is collected before it is written, so many bytes of it so far. Writes those.
-pub fn print_page(rt: &impl Print, page: &[u8], held: usize) -> io::Result<()> {
-    if held <= page.len() {
-        return print(rt, &page[..held]);
+impl<'a, P: Print> Page<'a, P> {
+    pub fn new(out: &'a P) -> Page<'a, P> {
+        Page {
+            out,
+            text: ArrayVec::new(),
+        }
     }
-    Ok(())
 }
 
-// How many bytes a page holds once it has room for some more: as many as before, or none since they are written.
-fn room_for(rt: &impl Print, page: &[u8], held: usize, size: usize) -> io::Result<usize>
-    requires { size ≤ length page.now }
-    ensures { IfOk result (λ at. at + size ≤ length page.now) }
-{
-    if held <= page.len() - size {
-        return Ok(held);
+impl<P: Print> Write for Page<'_, P> {
+    fn write(&mut self, text: &[u8]) -> io::Result<usize> {
+        self.write_all(text)?;
+        Ok(text.len())
     }
-    print_page(rt, page, held)?;
-    Ok(0)
-}
 
-// Puts text behind what a page holds, and answers how many bytes it holds then. Text that is longer than the page is written.
-pub fn collect(rt: &impl Print, page: &mut [u8], held: usize, text: &[u8]) -> io::Result<usize> {
-    if page.len() < text.len() {
-        print_page(rt, page, held)?;
-        print(rt, text)?;
-        return Ok(0);
+    fn flush(&mut self) -> io::Result<()> {
+        self.out.write_all(self.text.as_slice())?;
+        self.text.clear();
+        Ok(())
     }
-    let at = room_for(rt, page, held, text.len())?;
-    let end = at + text.len();
-    page[at..end].copy_from_slice(text);
-    Ok(end)
-}
 
-// A number's digits, the same way.
-pub fn collect_number(rt: &impl Print, page: &mut [u8], held: usize, n: u64) -> io::Result<usize> {
-    let mut digits = Buffer::new();
-    collect(rt, page, held, digits.format(n).as_bytes())
-}
-
-fn print_point(rt: &impl Print, point: u16) -> io::Result<()> {
-    print_field(rt, b" ", point as u64)
+    fn write_all(&mut self, text: &[u8]) -> io::Result<()> {
+        if self.text.try_extend_from_slice(text).is_ok() {
+            return Ok(());
+        }
+        self.flush()?;
+        if self.text.try_extend_from_slice(text).is_ok() {
+            return Ok(());
+        }
+        self.out.write_all(text)
+    }
 }
 
 // Points, each after a space.
 pub fn print_points(rt: &impl Print, points: &[u16]) -> io::Result<()> {
     for point in points {
-        print_point(rt, *point)?;
-    }
-    Ok(())
-}
-
-fn print_line(rt: &impl Print, set: LineSet, line: usize) -> io::Result<()> {
-    if set.contains(line) {
-        return print_field(rt, b" ", line as u64);
+        print!(rt; " {point}")?;
     }
     Ok(())
 }
 
 // The lines of a set, rising, each after a space.
 pub fn print_lines(rt: &impl Print, set: LineSet) -> io::Result<()> {
-    for line in 0..512 {
-        print_line(rt, set, line)?;
+    for line in (0..512).filter(|line| set.contains(*line)) {
+        print!(rt; " {line}")?;
     }
     Ok(())
-}
-
-// The line of a refusal.
-pub fn print_refusal(rt: &impl Print, refusal: Refusal) -> io::Result<()> {
-    let number = answers::refusal_number(refusal);
-    let place = answers::refusal_place(refusal);
-    println!(rt; "refused {number} at {place}")
-}
-
-// The line of a refusal on standard error, from a program whose standard output is a file; of two inputs the place says whose it is.
-pub fn report_refusal(rt: &impl Eprint, refusal: Refusal, place: usize) -> io::Result<()> {
-    let number = answers::refusal_number(refusal);
-    eprintln!(rt; "refused {number} at {place}")
 }
 
 // The line of a verdict that has no value beside it.
 pub fn print_verdict(rt: &impl Print, verdict: Result<(), Refusal>) -> io::Result<()> {
     match verdict {
-        Ok(()) => print(rt, b"accepted\n"),
-        Err(refusal) => print_refusal(rt, refusal),
+        Ok(()) => println!(rt; "accepted"),
+        Err(refusal) => println!(rt; "{refusal}"),
     }
 }
 
 // The line of a program that was started in another way than it takes.
-pub fn print_usage(rt: &impl Eprint, usage: &[u8]) -> io::Result<()> {
-    rt.eprint("usage: ")?;
-    report(rt, usage)?;
-    rt.eprint("\n")
+pub fn print_usage(rt: &impl Eprint, usage: &str) -> io::Result<()> {
+    eprintln!(rt; "usage: {usage}")
 }

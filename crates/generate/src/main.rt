@@ -6,11 +6,6 @@ ghost use Rattle.std.specs.Prelude.{◌≤◌};
 use std::cmp::min;
 use std::io;
 
-// A number below 2^32, which each argument is asked to be, in four bytes.
-fn four_bytes(number: u64) -> u32 {
-    (number % 4294967296) as u32
-}
-
 // The bytes of a file with so many blocks, or of the largest buffer where there are more than that has room for.
 fn file_length(blocks: u32, preempters: u32) -> usize
     ensures { result ≤ 65536 }
@@ -22,21 +17,19 @@ fn file_length(blocks: u32, preempters: u32) -> usize
 fn write_file(rt: &(impl Print + Eprint), given: [u32; 6], file: &mut [u8]) -> io::Result<()> {
     let [seed, blocks, preempters, line_count, limit, reload] = given;
     match testload::generate(seed, blocks, preempters, line_count, limit, reload, file) {
-        Ok(()) => desk::print(rt, file),
-        Err(refusal) => desk::report_refusal(rt, refusal, refusal.place()),
+        Ok(()) => rt.write_all(file),
+        Err(refusal) => eprintln!(rt; "{refusal}"),
     }
 }
 
 fn main(rt: HostRuntime) -> io::Result<()> {
-    let mut given = [0u64; 6];
-    if !desk::arguments(&rt, &mut given, 4294967295) {
+    let Some(given) = desk::arguments(&rt) else {
         return desk::print_usage(
             &rt,
-            b"generate SEED N M S Q R > FILE   SEED: a number, the id too; N: basic blocks, 1 to 64; M: preempters, 0 to 32; S: cache lines, 1 to 512; Q: the limit in ticks; R: ticks of a reload; FILE: a task file; all below 4294967296",
+            "generate SEED N M S Q R > FILE   SEED: a number, the id too; N: basic blocks, 1 to 64; M: preempters, 0 to 32; S: cache lines, 1 to 512; Q: the limit in ticks; R: ticks of a reload; FILE: a task file; all below 4294967296",
         );
-    }
+    };
     let mut file = [0u8; 65536];
-    let numbers = given.map(four_bytes);
-    let n = file_length(numbers[1], numbers[2]);
-    write_file(&rt, numbers, &mut file[..n])
+    let n = file_length(given[1], given[2]);
+    write_file(&rt, given, &mut file[..n])
 }

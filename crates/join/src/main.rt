@@ -22,8 +22,8 @@ fn write_joined(
     out: &mut [u8],
 ) -> io::Result<()> {
     match joining::join(first, second, out) {
-        Ok(()) => desk::print(rt, out),
-        Err(refused) => desk::report_refusal(rt, refused.refusal, refused.place),
+        Ok(()) => rt.write_all(out),
+        Err(refused) => eprintln!(rt; "{refused}"),
     }
 }
 
@@ -31,21 +31,17 @@ fn main(rt: HostRuntime) -> io::Result<()> {
     if desk::argument_count(&rt) != 2 {
         return desk::print_usage(
             &rt,
-            b"join FIRST SECOND > FILE   FIRST, SECOND: names of two task files; FILE: the task file of both",
+            "join FIRST SECOND > FILE   FIRST, SECOND: names of two task files; FILE: the task file of both",
         );
     }
     let mut first = [0u8; 65536];
     let read = desk::read_named(&rt, 1, &mut first)?;
     let mut second = [0u8; 65536];
     let other = desk::read_named(&rt, 2, &mut second)?;
-    if read.found {
-        if other.found {
-            let mut out = [0u8; 65536];
-            let a = read.count;
-            let b = other.count;
-            let n = joined_length(a, b);
-            return write_joined(&rt, &first[..a], &second[..b], &mut out[..n]);
-        }
-    }
-    Ok(())
+    let (Some(a), Some(b)) = (read, other) else {
+        return Ok(());
+    };
+    let mut out = [0u8; 65536];
+    let n = joined_length(a, b);
+    write_joined(&rt, &first[..a], &second[..b], &mut out[..n])
 }

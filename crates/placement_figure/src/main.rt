@@ -53,16 +53,14 @@ fn print_placement(rt: &impl Print, cost: u64, time: u64, nexts: &[usize; 65]) -
     requires { Rising nexts.now 6 }
 {
     if cost == placement::NONE {
-        desk::print(rt, b"none\n")
-    } else {
-        let list = placement::follow(nexts, 6);
-        let points = list.points;
-        desk::print(rt, b"points")?;
-        desk::print_points(rt, desk::first(&points, list.count))?;
-        desk::print_field(rt, b" cost ", cost)?;
-        desk::print_field(rt, b" with times ", cost.wrapping_add(time))?;
-        desk::end_line(rt)
+        return println!(rt; "none");
     }
+    let list = placement::follow(nexts, 6);
+    let points = list.points;
+    let both = cost.wrapping_add(time);
+    print!(rt; "points")?;
+    desk::print_points(rt, desk::first(&points, list.count))?;
+    println!(rt; " cost {cost} with times {both}")
 }
 
 fn main(rt: HostRuntime) -> io::Result<()> {

@@ -8,35 +8,27 @@ ghost use Rattle.model.specs.Planning.{chosen};
 ghost use Rattle.taskfile.specs.File.{IsAccepted, task_of};
 
 use model::Plan;
+use report::Summary;
 use std::io;
 
 fn print_plan(rt: &impl Print, file: &[u8], plan: Plan) -> io::Result<()>
     requires { IsAccepted file.now × (wrong_point (block_count (task_of file.now)) (chosen plan) ≡ None) }
 {
     let points = plan.points;
-    report::print_list(
-        rt,
-        file,
-        plan.id,
-        plan.blocks as usize,
-        desk::first(&points, plan.count as usize),
-        plan.lines as u64,
-        plan.cost,
-    )
+    let listed = desk::first(&points, plan.count as usize);
+    report::print_list(rt, file, listed, Summary::from(plan))
 }
 
 fn print_answer(rt: &impl Print, file: &[u8]) -> io::Result<()> {
-    let found = planner::plan(file);
-    let verdict = found.verdict;
-    match verdict {
-        Ok(()) => print_plan(rt, file, found.plan),
-        Err(refusal) => desk::print_refusal(rt, refusal),
+    match planner::plan(file) {
+        Ok(found) => print_plan(rt, file, found.plan),
+        Err(refusal) => println!(rt; "{refusal}"),
     }
 }
 
 fn main(rt: HostRuntime) -> io::Result<()> {
     if 0 < desk::argument_count(&rt) {
-        return desk::print_usage(&rt, b"plan < FILE   FILE: a task file");
+        return desk::print_usage(&rt, "plan < FILE   FILE: a task file");
     }
     let mut file = [0u8; 65536];
     let n = desk::read_input(&rt, &mut file)?;

@@ -1,43 +1,47 @@
 // Plan blocks by example: what storing and reading answer, a line for each case.
 #![tactic(auto)]
 
-ghost use Rattle.std.specs.Prelude.{◌≡◌, ◌≤◌, ◌<◌};
+ghost use Rattle.std.specs.Prelude.{Ok, ◌≡◌, ◌≤◌, ◌<◌};
 ghost use Rattle.model.specs.Answers.{accept};
 ghost use Rattle.planvalue.specs.Values.{plan_verdict};
 
-use model::Plan;
+use model::{Plan, Refusal};
 use std::io;
 
-fn show(rt: &impl Print, case: &[u8], verdict: Result<(), Refusal>) -> io::Result<()> {
-    desk::print(rt, case)?;
-    desk::print(rt, b": ")?;
+// What is shown where no plan is read.
+const NONE: Plan = Plan {
+    blocks: 0,
+    id: 0,
+    count: 0,
+    lines: 0,
+    cost: 0,
+    points: [0; 64],
+};
+
+fn show(rt: &impl Print, case: &str, verdict: Result<(), Refusal>) -> io::Result<()> {
+    print!(rt; "{case}: ")?;
     desk::print_verdict(rt, verdict)
 }
 
-// The first two points.
-fn show_points(rt: &impl Print, points: &[u16; 64]) -> io::Result<()> {
-    desk::print(rt, b", points")?;
-    desk::print_points(rt, desk::first(points, 2))?;
-    desk::end_line(rt)
-}
-
-fn show_plan(rt: &impl Print, case: &[u8], plan: Plan) -> io::Result<()> {
-    let points = plan.points;
-    desk::print(rt, case)?;
-    desk::print_field(rt, b": N ", plan.blocks as u64)?;
-    desk::print_field(rt, b", id ", plan.id as u64)?;
-    desk::print_field(rt, b", count ", plan.count as u64)?;
-    desk::print_field(rt, b", lines ", plan.lines as u64)?;
-    desk::print_field(rt, b", cost ", plan.cost)?;
-    show_points(rt, &points)
+// A plan's fields, and its first two points.
+fn show_plan(rt: &impl Print, case: &str, plan: Plan) -> io::Result<()> {
+    let Plan {
+        blocks,
+        id,
+        count,
+        lines,
+        cost,
+        points,
+    } = plan;
+    print!(rt; "{case}: N {blocks}, id {id}, count {count}, lines {lines}, cost {cost}, points")?;
+    desk::print_points(rt, &points[..2])?;
+    println!(rt)
 }
 
 // A plan with these first three entries.
-fn plan(blocks: u16, count: u16, a: u16, b: u16, c: u16) -> Plan {
+fn plan(blocks: u16, count: u16, first: [u16; 3]) -> Plan {
     let mut points = [0u16; 64];
-    points[0] = a;
-    points[1] = b;
-    points[2] = c;
+    points[..3].copy_from_slice(&first);
     Plan {
         blocks,
         id: 7,
@@ -50,7 +54,7 @@ fn plan(blocks: u16, count: u16, a: u16, b: u16, c: u16) -> Plan {
 
 // Four blocks, cut after the first and the third.
 fn right() -> Plan {
-    plan(4, 2, 1, 3, 0)
+    plan(4, 2, [1, 3, 0])
 }
 
 fn store_into(plan: Plan, n: usize) -> Result<(), Refusal>
@@ -61,24 +65,21 @@ fn store_into(plan: Plan, n: usize) -> Result<(), Refusal>
 }
 
 // Stores a plan with these first three entries.
-fn store(
-    rt: &impl Print,
-    case: &[u8],
-    blocks: u16,
-    count: u16,
-    a: u16,
-    b: u16,
-    c: u16,
-) -> io::Result<()> {
-    show(rt, case, store_into(plan(blocks, count, a, b, c), 512))
+fn store(rt: &impl Print, case: &str, blocks: u16, count: u16, first: [u16; 3]) -> io::Result<()> {
+    show(rt, case, store_into(plan(blocks, count, first), 512))
+}
+
+// Whether bytes are read as a plan.
+fn read_verdict(bytes: &[u8]) -> Result<(), Refusal> {
+    planblock::read(bytes)?;
+    Ok(())
 }
 
 fn read_zeros(n: usize) -> Result<(), Refusal>
     requires { n ≤ 513 }
 {
     let bytes = [0u8; 513];
-    let read = planblock::read(&bytes[0..n]);
-    read.verdict
+    read_verdict(&bytes[0..n])
 }
 
 // Stores a plan, sets one byte, makes the checksum right and reads.
@@ -86,15 +87,14 @@ fn read_with(plan: Plan, at: usize, byte: u8) -> Result<(), Refusal>
     requires { at < 512 }
 {
     let mut bytes = [0u8; 512];
-    planblock::store(plan, &mut bytes);
+    planblock::store(plan, &mut bytes)?;
     bytes[at] = byte;
     block::seal(&mut bytes);
-    let read = planblock::read(&bytes);
-    read.verdict
+    read_verdict(&bytes)
 }
 
 // Stores the right plan, sets one byte, makes the checksum right and reads.
-fn read(rt: &impl Print, case: &[u8], at: usize, byte: u8) -> io::Result<()>
+fn read(rt: &impl Print, case: &str, at: usize, byte: u8) -> io::Result<()>
     requires { at < 512 }
 {
     show(rt, case, read_with(right(), at, byte))
@@ -105,20 +105,18 @@ fn read_changed(plan: Plan, at: usize) -> Result<(), Refusal>
     requires { at < 512 }
 {
     let mut bytes = [0u8; 512];
-    planblock::store(plan, &mut bytes);
+    planblock::store(plan, &mut bytes)?;
     bytes[at] = if bytes[at] == 0 { 1 } else { 0 };
-    let read = planblock::read(&bytes);
-    read.verdict
+    read_verdict(&bytes)
 }
 
 // Stores a plan and reads it back: an accepted plan comes back whole.
-fn round_trip(plan: Plan) -> Plan
-    ensures { plan_verdict plan ≡ accept → result ≡ plan }
+fn round_trip(plan: Plan) -> Result<Plan, Refusal>
+    ensures { plan_verdict plan ≡ accept → result ≡ Ok plan }
 {
     let mut bytes = [0u8; 512];
-    planblock::store(plan, &mut bytes);
-    let read = planblock::read(&bytes);
-    read.plan
+    let _ = planblock::store(plan, &mut bytes); // A refused plan leaves zeros, which are no plan.
+    planblock::read(&bytes)
 }
 
 fn one_to_63() -> [u16; 64] {
@@ -153,101 +151,97 @@ fn with_last() -> Plan {
 fn kept(plan: Plan) -> bool {
     let before = [170u8; 512];
     let mut out = [170u8; 512];
-    planblock::store(plan, &mut out);
+    let _ = planblock::store(plan, &mut out);
     out == before
 }
 
 // 9 first: a buffer of another length than 512.
 fn buffers(rt: &impl Print) -> io::Result<()> {
-    show(rt, b"store in 0 bytes", store_into(right(), 0))?;
-    show(rt, b"store in 511 bytes", store_into(right(), 511))?;
-    show(rt, b"store in 512 bytes", store_into(right(), 512))?;
-    show(rt, b"store in 513 bytes", store_into(right(), 513))?;
+    show(rt, "store in 0 bytes", store_into(right(), 0))?;
+    show(rt, "store in 511 bytes", store_into(right(), 511))?;
+    show(rt, "store in 512 bytes", store_into(right(), 512))?;
+    show(rt, "store in 513 bytes", store_into(right(), 513))?;
     show(
         rt,
-        b"store n65 in 511 bytes",
-        store_into(plan(65, 2, 1, 3, 0), 511),
+        "store n65 in 511 bytes",
+        store_into(plan(65, 2, [1, 3, 0]), 511),
     )
 }
 
 // Then 7 at 0: N is 1 to 64, and the count at most 63.
 fn ranges(rt: &impl Print) -> io::Result<()> {
-    store(rt, b"store n0", 0, 0, 0, 0, 0)?;
-    store(rt, b"store n1", 1, 0, 0, 0, 0)?;
-    store(rt, b"store n64", 64, 2, 1, 63, 0)?;
-    store(rt, b"store n65", 65, 2, 1, 3, 0)?;
-    store(rt, b"store n65, equal points", 65, 2, 1, 1, 0)?;
-    show(rt, b"store count 63", store_into(all_points(63), 512))?;
-    show(rt, b"store count 64", store_into(all_points(64), 512))
+    store(rt, "store n0", 0, 0, [0, 0, 0])?;
+    store(rt, "store n1", 1, 0, [0, 0, 0])?;
+    store(rt, "store n64", 64, 2, [1, 63, 0])?;
+    store(rt, "store n65", 65, 2, [1, 3, 0])?;
+    store(rt, "store n65, equal points", 65, 2, [1, 1, 0])?;
+    show(rt, "store count 63", store_into(all_points(63), 512))?;
+    show(rt, "store count 64", store_into(all_points(64), 512))
 }
 
 // Then 7 at the lowest wrong entry.
 fn entries(rt: &impl Print) -> io::Result<()> {
-    store(rt, b"store point 0", 4, 2, 0, 3, 0)?;
-    store(rt, b"store point N", 4, 2, 1, 4, 0)?;
-    store(rt, b"store equal points", 4, 2, 2, 2, 0)?;
-    store(rt, b"store falling points", 4, 2, 3, 1, 0)?;
-    store(rt, b"store two wrong points", 4, 3, 1, 1, 9)?;
-    store(rt, b"store entry 2 beyond the count", 4, 2, 1, 3, 2)?;
+    store(rt, "store point 0", 4, 2, [0, 3, 0])?;
+    store(rt, "store point N", 4, 2, [1, 4, 0])?;
+    store(rt, "store equal points", 4, 2, [2, 2, 0])?;
+    store(rt, "store falling points", 4, 2, [3, 1, 0])?;
+    store(rt, "store two wrong points", 4, 3, [1, 1, 9])?;
+    store(rt, "store entry 2 beyond the count", 4, 2, [1, 3, 2])?;
     show(
         rt,
-        b"store entry 63 beyond the count",
+        "store entry 63 beyond the count",
         store_into(with_last(), 512),
     )?;
     if kept(with_last()) {
-        desk::print(rt, b"the refused store left the buffer\n")?;
+        println!(rt; "the refused store left the buffer")?;
     }
     Ok(())
 }
 
 // 1, then 2: the length and the checksum. The four zeros are not the hash of the others.
 fn frames(rt: &impl Print) -> io::Result<()> {
-    show(rt, b"read 0 bytes", read_zeros(0))?;
-    show(rt, b"read 511 bytes", read_zeros(511))?;
-    show(rt, b"read 513 bytes", read_zeros(513))?;
-    show(rt, b"read 512 zeros", read_zeros(512))?;
-    show(rt, b"read with byte 8 changed", read_changed(right(), 8))?;
-    show(
-        rt,
-        b"read with byte 511 changed",
-        read_changed(right(), 511),
-    )?;
-    read(rt, b"read as stored", 20, 1)
+    show(rt, "read 0 bytes", read_zeros(0))?;
+    show(rt, "read 511 bytes", read_zeros(511))?;
+    show(rt, "read 513 bytes", read_zeros(513))?;
+    show(rt, "read 512 zeros", read_zeros(512))?;
+    show(rt, "read with byte 8 changed", read_changed(right(), 8))?;
+    show(rt, "read with byte 511 changed", read_changed(right(), 511))?;
+    read(rt, "read as stored", 20, 1)
 }
 
 // Then 5: a wrong field under a right checksum.
 fn fields(rt: &impl Print) -> io::Result<()> {
-    read(rt, b"read kind 3", 0, 3)?;
-    read(rt, b"read byte 1 not zero", 1, 1)?;
-    read(rt, b"read n0", 2, 0)?;
-    read(rt, b"read n65", 2, 65)?;
-    read(rt, b"read n260", 3, 1)?;
-    read(rt, b"read count 64", 4, 64)?;
-    read(rt, b"read count 258", 5, 1)?;
-    read(rt, b"read byte 503 not zero", 503, 1)?;
-    read(rt, b"read block number 1", 504, 1)
+    read(rt, "read kind 3", 0, 3)?;
+    read(rt, "read byte 1 not zero", 1, 1)?;
+    read(rt, "read n0", 2, 0)?;
+    read(rt, "read n65", 2, 65)?;
+    read(rt, "read n260", 3, 1)?;
+    read(rt, "read count 64", 4, 64)?;
+    read(rt, "read count 258", 5, 1)?;
+    read(rt, "read byte 503 not zero", 503, 1)?;
+    read(rt, "read block number 1", 504, 1)
 }
 
 // The lines, the cost and the id are free.
 fn free_fields(rt: &impl Print) -> io::Result<()> {
-    read(rt, b"read other lines", 6, 255)?;
-    read(rt, b"read another cost", 15, 255)?;
-    read(rt, b"read another id", 19, 255)
+    read(rt, "read other lines", 6, 255)?;
+    read(rt, "read another cost", 15, 255)?;
+    read(rt, "read another id", 19, 255)
 }
 
 // And wrong points: points 1 and 3 stand at bytes 20 and 22.
 fn points(rt: &impl Print) -> io::Result<()> {
-    read(rt, b"read point 0", 20, 0)?;
-    read(rt, b"read point N", 22, 4)?;
-    read(rt, b"read equal points", 22, 1)?;
+    read(rt, "read point 0", 20, 0)?;
+    read(rt, "read point N", 22, 4)?;
+    read(rt, "read equal points", 22, 1)?;
     show(
         rt,
-        b"read falling points",
-        read_with(plan(64, 2, 5, 9, 0), 22, 4),
+        "read falling points",
+        read_with(plan(64, 2, [5, 9, 0]), 22, 4),
     )?;
-    read(rt, b"read one point more", 4, 3)?;
-    read(rt, b"read one point less", 4, 1)?;
-    read(rt, b"read point 2, not 1", 20, 2)
+    read(rt, "read one point more", 4, 3)?;
+    read(rt, "read one point less", 4, 1)?;
+    read(rt, "read point 2, not 1", 20, 2)
 }
 
 fn main(rt: HostRuntime) -> io::Result<()> {
@@ -258,6 +252,10 @@ fn main(rt: HostRuntime) -> io::Result<()> {
     fields(&rt)?;
     free_fields(&rt)?;
     points(&rt)?;
-    show_plan(&rt, b"stored and read", round_trip(right()))?;
-    show_plan(&rt, b"refused and read", round_trip(with_last()))
+    show_plan(&rt, "stored and read", round_trip(right()).unwrap_or(NONE))?;
+    show_plan(
+        &rt,
+        "refused and read",
+        round_trip(with_last()).unwrap_or(NONE),
+    )
 }

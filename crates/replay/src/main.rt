@@ -2,34 +2,32 @@
 // the refusal.
 #![tactic(auto)]
 
+use replaying::Misses;
 use std::io;
 
 // The line of both counts.
-fn print_misses(rt: &impl Print, alone: u32, preempted: u32) -> io::Result<()> {
-    desk::print_field(rt, b"misses ", alone as u64)?;
-    desk::print_field(rt, b" with points ", preempted as u64)?;
-    desk::end_line(rt)
+fn print_misses(rt: &impl Print, misses: Misses) -> io::Result<()> {
+    let alone = misses.alone;
+    let preempted = misses.preempted;
+    println!(rt; "misses {alone} with points {preempted}")
 }
 
-// The answer to the first points.
-fn print_answer(rt: &impl Print, file: &[u8], points: &[u16; 64], count: usize) -> io::Result<()> {
-    let misses = replaying::replay(file, desk::first(points, count));
-    let verdict = misses.verdict;
-    match verdict {
-        Ok(()) => print_misses(rt, misses.alone, misses.preempted),
-        Err(refusal) => desk::print_refusal(rt, refusal),
+fn print_answer(rt: &impl Print, file: &[u8], points: &[u16]) -> io::Result<()> {
+    match replaying::replay(file, points) {
+        Ok(misses) => print_misses(rt, misses),
+        Err(refusal) => println!(rt; "{refusal}"),
     }
 }
 
 fn main(rt: HostRuntime) -> io::Result<()> {
-    let mut points = [0u16; 64];
-    let Some(count) = desk::read_points(&rt, &mut points) else {
+    let mut room = [0u16; 64];
+    let Some(points) = desk::read_points(&rt, &mut room) else {
         return desk::print_usage(
             &rt,
-            b"replay POINT.. < FILE   POINT: an edge, 1 to N - 1, each above the one before; FILE: a task file of N basic blocks",
+            "replay POINT.. < FILE   POINT: an edge, 1 to N - 1, each above the one before; FILE: a task file of N basic blocks",
         );
     };
     let mut file = [0u8; 65536];
     let n = desk::read_input(&rt, &mut file)?;
-    print_answer(&rt, &file[..n], &points, count as usize)
+    print_answer(&rt, &file[..n], points)
 }

@@ -6,14 +6,45 @@ ghost use Rattle.model.specs.Task.{block_count};
 ghost use Rattle.model.specs.Lists.{wrong_point};
 ghost use Rattle.taskfile.specs.File.{IsAccepted, task_of};
 
-use std::io;
+use model::Plan;
+use std::{fmt, io};
 
-// The region from edge a to edge b.
-fn print_region(rt: &impl Print, a: usize, b: usize, length: u64) -> io::Result<()> {
-    desk::print_field(rt, b"region ", a as u64)?;
-    desk::print_field(rt, b" ", b as u64)?;
-    desk::print_field(rt, b" length ", length)?;
-    desk::end_line(rt)
+// What is said of a list of points in one line: its task's id and N, how many points it has, its lines and its cost.
+#[derive(Clone, Copy)]
+pub struct Summary {
+    pub id: u32,
+    pub blocks: usize,
+    pub points: usize,
+    pub lines: u64,
+    pub cost: u64,
+}
+
+impl From<Plan> for Summary {
+    fn from(plan: Plan) -> Summary {
+        Summary {
+            id: plan.id,
+            blocks: plan.blocks as usize,
+            points: plan.count as usize,
+            lines: plan.lines as u64,
+            cost: plan.cost,
+        }
+    }
+}
+
+impl fmt::Display for Summary {
+    fn fmt<W: fmt::Write>(&self, f: &mut fmt::Formatter<W>) -> fmt::Result {
+        let Summary {
+            id,
+            blocks,
+            points,
+            lines,
+            cost,
+        } = *self;
+        write!(
+            f,
+            "task {id} blocks {blocks} points {points} lines {lines} cost {cost}"
+        )
+    }
 }
 
 // The regions that points cut an accepted file's task into.
@@ -24,57 +55,31 @@ fn print_regions(rt: &impl Print, file: &[u8], points: &[u16]) -> io::Result<()>
     let mut lines = [0u32; 64];
     pricing::count_lines(file, points, &mut lines);
     let mut a = 0;
-    let mut i = 0;
-    while i <= points.len() {
+    for i in 0..points.len() + 1 {
         let b = pricing::edge_after(points, i, n);
-        print_region(
-            rt,
-            a,
-            b,
-            regions::weigh_between(file, a, b, lines[i]).length,
-        )?;
+        let length = regions::weigh_between(file, a, b, lines[i]).length;
+        println!(rt; "region {a} {b} length {length}")?;
         a = b;
-        i += 1;
     }
     Ok(())
 }
 
-// A well-formed list of points of an accepted file: the list's lines and cost, and each of its regions.
-pub fn print_list(
-    rt: &impl Print,
-    file: &[u8],
-    id: u32,
-    n: usize,
-    points: &[u16],
-    lines: u64,
-    cost: u64,
-) -> io::Result<()>
+// A well-formed list of points of an accepted file: what is said of it, and each of its regions.
+pub fn print_list(rt: &impl Print, file: &[u8], points: &[u16], summary: Summary) -> io::Result<()>
     requires { IsAccepted file.now × (wrong_point (block_count (task_of file.now)) points.now ≡ None) }
 {
-    desk::print_field(rt, b"task ", id as u64)?;
-    desk::print_field(rt, b" blocks ", n as u64)?;
-    desk::print_field(rt, b" points ", points.len() as u64)?;
-    desk::print_field(rt, b" lines ", lines)?;
-    desk::print_field(rt, b" cost ", cost)?;
-    desk::end_line(rt)?;
+    println!(rt; "{summary}")?;
     print_regions(rt, file, points)
-}
-
-// The charge of preempter i.
-fn print_charge(rt: &impl Print, i: usize, id: u32, lines: u32) -> io::Result<()> {
-    desk::print_field(rt, b"preempter ", i as u64)?;
-    desk::print_field(rt, b" id ", id as u64)?;
-    desk::print_field(rt, b" lines ", lines as u64)?;
-    desk::end_line(rt)
 }
 
 // The charges of an accepted file's preempters.
 pub fn print_charges(rt: &impl Print, file: &[u8], charges: [u32; 32]) -> io::Result<()>
     requires { IsAccepted file.now }
 {
-    let count = taskfile::preempter_count(file);
-    for i in 0..count {
-        print_charge(rt, i, taskfile::preempter_id(file, i), charges[i])?;
+    for i in 0..taskfile::preempter_count(file) {
+        let id = taskfile::preempter_id(file, i);
+        let lines = charges[i];
+        println!(rt; "preempter {i} id {id} lines {lines}")?;
     }
     Ok(())
 }

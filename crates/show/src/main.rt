@@ -7,14 +7,14 @@ fn main(rt: HostRuntime) -> io::Result<()> {
     if 0 < desk::argument_count(&rt) {
         return desk::print_usage(
             &rt,
-            b"show < FILE > TEXT   FILE: a task file; TEXT: the text of its task",
+            "show < FILE > TEXT   FILE: a task file; TEXT: the text of its task",
         );
     }
     let mut file = [0u8; 65536];
     let n = desk::read_input(&rt, &mut file)?;
     let mut text = [0u8; 135168];
     match showing::show(&file[..n], &mut text) {
-        Ok(length) => desk::print_page(&rt, &text, length),
-        Err(refusal) => desk::print_refusal(&rt, refusal),
+        Ok(length) => rt.write_all(desk::first(&text, length)),
+        Err(refusal) => println!(rt; "{refusal}"),
     }
 }

@@ -7,11 +7,9 @@ use std::rt::{Env, Files};
 // The name and the answer of the file that argument i names.
 fn print_case(rt: &(impl Env + Files + Print + Eprint), i: usize) -> io::Result<()> {
     let mut file = [0u8; 65536];
-    let read = desk::read_named(rt, i, &mut file)?;
-    let n = read.count;
-    if read.found {
+    if let Some(n) = desk::read_named(rt, i, &mut file)? {
         desk::print_argument(rt, i)?;
-        desk::print(rt, b" ")?;
+        print!(rt; " ")?;
         desk::print_verdict(rt, taskfile::check(&file[..n]))?;
     }
     Ok(())

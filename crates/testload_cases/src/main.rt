@@ -7,15 +7,13 @@ use std::io;
 
 // The answer to one case, in a buffer of its length.
 fn print_answer(rt: &impl Print, numbers: [u32; 6], out: &mut [u8]) -> io::Result<()> {
-    let verdict = testload::generate(
-        numbers[0], numbers[1], numbers[2], numbers[3], numbers[4], numbers[5], out,
-    );
-    match verdict {
+    let [seed, blocks, preempters, lines, limit, reload] = numbers;
+    match testload::generate(seed, blocks, preempters, lines, limit, reload, out) {
         Ok(()) => {
             let hash = fnv::hash(out);
             println!(rt; "{hash:08x}")
         }
-        Err(refusal) => desk::print_refusal(rt, refusal),
+        Err(refusal) => println!(rt; "{refusal}"),
     }
 }
 

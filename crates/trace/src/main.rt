@@ -8,20 +8,16 @@ use tracing::{Scan, Settings};
 // More pieces of 65,536 bytes than any input has: 2^64 bytes.
 const PIECES: u64 = 281474976710656;
 
-// A number below 2^32, which each argument is asked to be, in four bytes.
-fn four_bytes(number: u64) -> u32 {
-    (number % 4294967296) as u32
-}
-
-fn settings_of(given: [u64; 7]) -> Settings {
+fn settings_of(given: [u32; 7]) -> Settings {
+    let [size, group, ticks, line_count, limit, reload, id] = given;
     Settings {
-        size: four_bytes(given[0]),
-        group: four_bytes(given[1]),
-        ticks: four_bytes(given[2]),
-        line_count: four_bytes(given[3]),
-        limit: four_bytes(given[4]),
-        reload: four_bytes(given[5]),
-        id: four_bytes(given[6]),
+        size,
+        group,
+        ticks,
+        line_count,
+        limit,
+        reload,
+        id,
     }
 }
 
@@ -48,19 +44,18 @@ fn write_file(
 ) -> io::Result<()> {
     let mut file = [0u8; 33280];
     match scan.finish(addresses, settings, &mut file) {
-        Ok(length) => desk::print_page(rt, &file, length),
-        Err(refusal) => desk::report_refusal(rt, refusal, refusal.place()),
+        Ok(length) => rt.write_all(desk::first(&file, length)),
+        Err(refusal) => eprintln!(rt; "{refusal}"),
     }
 }
 
 fn main(rt: HostRuntime) -> io::Result<()> {
-    let mut given = [0u64; 7];
-    if !desk::arguments(&rt, &mut given, 4294967295) {
+    let Some(given) = desk::arguments(&rt) else {
         return desk::print_usage(
             &rt,
-            b"trace SIZE G TICKS S Q R ID < TRACE > FILE   SIZE: bytes of a memory block, from 1; G: records of a basic block, 1 to 124; TICKS: ticks of a record; S: cache lines, 1 to 512; Q: the limit in ticks; R: ticks of a reload; ID: a number; TRACE: din lines; FILE: a task file; all below 4294967296",
+            "trace SIZE G TICKS S Q R ID < TRACE > FILE   SIZE: bytes of a memory block, from 1; G: records of a basic block, 1 to 124; TICKS: ticks of a record; S: cache lines, 1 to 512; Q: the limit in ticks; R: ticks of a reload; ID: a number; TRACE: din lines; FILE: a task file; all below 4294967296",
         );
-    }
+    };
     let mut addresses = [0u32; tracing::ROOM];
     let scan = scan_input(&rt, &mut addresses)?;
     write_file(&rt, scan, &addresses, settings_of(given))

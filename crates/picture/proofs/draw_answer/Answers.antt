@@ -4,5 +4,5 @@ use Rattle.picture.proofs.draw_answer.Goals as goal
 
 pub draw_plan-requires : goal.draw_plan-requires
 draw_plan-requires g c =
-    let answer = c.least_plan-found.ensures in
-    (plan-accepted _ _ _ answer c.in-Ok.is, plan-right _ _ _ answer c.in-Ok.is)
+    let answer = rw c.in-Ok.is at c.least_plan.ensures in
+    (plan-accepted _ _ answer, plan-right _ _ answer)

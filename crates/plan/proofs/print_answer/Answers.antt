@@ -4,5 +4,5 @@ use Rattle.plan.proofs.print_answer.Goals as goal
 
 pub print_plan-requires : goal.print_plan-requires
 print_plan-requires g c =
-    let answer = c.plan-found.ensures.plan_answer in
-    (plan-accepted _ _ _ answer c.in-Ok.is, plan-right _ _ _ answer c.in-Ok.is)
+    let answer = rw c.in-Ok.is at c.plan.ensures.plan_answer in
+    (plan-accepted _ _ answer, plan-right _ _ answer)

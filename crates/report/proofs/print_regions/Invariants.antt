@@ -1,11 +1,8 @@
 -- Region i starts at the point before it.
-use Rattle.std.proofs.Common.{◌≡◌, ◌+◌, ◌-◌, ◌≤◌, length}
+use Rattle.std.proofs.Common.{◌≡◌}
 use Rattle.taskfile.specs.File.{task_of}
 use Rattle.pricing.proofs.Pricing.{start_of}
 use Rattle.report.proofs.print_regions.Given as goal
 
 abbrev pub invariant-loop-i : goal.invariant-loop-i
-invariant-loop-i g l = (l.i ≤ length l.points + 1) × (l.a ≡ start_of (task_of l.file) l.points l.i)
-
-abbrev pub decreases-loop-i : goal.decreases-loop-i
-decreases-loop-i g l = length l.points + 1 - l.i
+invariant-loop-i g l = l.a ≡ start_of (task_of l.file) l.points l.i

@@ -1,5 +1,5 @@
 -- The number that is found is from the start on, and at most 32,767.
-use Rattle.std.proofs.Common.{ℕ, ◌-◌, ◌^◌, ◌≤◌, sym, ◌∙◌, arith}
+use Rattle.std.proofs.Common.{ℕ, ◌-◌, ◌^◌, ◌≤◌, sym, arith}
 use lib.Pow.{pow_mono}
 use Rattle.enumerating.proofs.Searching.{found_between}
 use Rattle.lists.proofs.print_all.Goals as goal

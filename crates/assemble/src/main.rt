@@ -26,7 +26,7 @@ fn print_file(rt: &(impl Print + Eprint), text: &[u8]) -> io::Result<()> {
 fn print_usage(rt: &impl Eprint) -> io::Result<()> {
     desk::print_usage(
         rt,
-        "assemble < TEXT > FILE   TEXT: the text of a task, at most 262144 bytes; FILE: its task file",
+        b"assemble < TEXT > FILE   TEXT: the text of a task, at most 262144 bytes; FILE: its task file",
     )
 }
 

@@ -54,7 +54,7 @@ fn print_answer(rt: &impl Print, answer: Result<Option<u32>, Refusal>) -> io::Re
 fn print_usage(rt: &impl Eprint) -> io::Result<()> {
     desk::print_usage(
         rt,
-        "deadlines HORIZON < SET   HORIZON: ticks, 0 to 16777215; SET: a line of four numbers for each of 1 to 16 tasks, its execution time, period, deadline and longest region, in ticks; less than 65536 bytes",
+        b"deadlines HORIZON < SET   HORIZON: ticks, 0 to 16777215; SET: a line of four numbers for each of 1 to 16 tasks, its execution time, period, deadline and longest region, in ticks; less than 65536 bytes",
     )
 }
 

@@ -66,7 +66,9 @@ pub fn argument_count(rt: &impl Env) -> usize {
 
 // Puts the points that the arguments give into a list, and answers those; nothing where an argument is no number of two bytes. A well-formed list has
 // at most 63 points, so the first 64 decide at which of them a longer list is refused.
-pub fn read_points<'a>(rt: &impl Env, points: &'a mut [u16; 64]) -> Option<&'a [u16]> {
+pub fn read_points<'a>(rt: &impl Env, points: &'a mut [u16; 64]) -> Option<&'a [u16]>
+    ensures { IfSome result (λ listed. length listed.now ≤ 64) }
+{
     let count = argument_count(rt);
     for i in 0..count {
         let point = argument(rt, i + 1, 65535)?;
@@ -225,6 +227,8 @@ pub fn print_verdict(rt: &impl Print, verdict: Result<(), Refusal>) -> io::Resul
 }
 
 // The line of a program that was started in another way than it takes.
-pub fn print_usage(rt: &impl Eprint, usage: &str) -> io::Result<()> {
-    eprintln!(rt; "usage: {usage}")
+pub fn print_usage(rt: &impl Eprint, usage: &[u8]) -> io::Result<()> {
+    rt.eprint("usage: ")?;
+    report(rt, usage)?;
+    rt.eprint("\n")
 }

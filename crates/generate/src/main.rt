@@ -26,7 +26,7 @@ fn main(rt: HostRuntime) -> io::Result<()> {
     let Some(given) = desk::arguments(&rt) else {
         return desk::print_usage(
             &rt,
-            "generate SEED N M S Q R > FILE   SEED: a number, the id too; N: basic blocks, 1 to 64; M: preempters, 0 to 32; S: cache lines, 1 to 512; Q: the limit in ticks; R: ticks of a reload; FILE: a task file; all below 4294967296",
+            b"generate SEED N M S Q R > FILE   SEED: a number, the id too; N: basic blocks, 1 to 64; M: preempters, 0 to 32; S: cache lines, 1 to 512; Q: the limit in ticks; R: ticks of a reload; FILE: a task file; all below 4294967296",
         );
     };
     let mut file = [0u8; 65536];

@@ -31,7 +31,7 @@ fn main(rt: HostRuntime) -> io::Result<()> {
     if desk::argument_count(&rt) != 2 {
         return desk::print_usage(
             &rt,
-            "join FIRST SECOND > FILE   FIRST, SECOND: names of two task files; FILE: the task file of both",
+            b"join FIRST SECOND > FILE   FIRST, SECOND: names of two task files; FILE: the task file of both",
         );
     }
     let mut first = [0u8; 65536];

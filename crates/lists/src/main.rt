@@ -45,7 +45,7 @@ fn main(rt: HostRuntime) -> io::Result<()> {
     if 0 < desk::argument_count(&rt) {
         return desk::print_usage(
             &rt,
-            "lists < FILE   FILE: a task file of at most 16 basic blocks",
+            b"lists < FILE   FILE: a task file of at most 16 basic blocks",
         );
     }
     let mut file = [0u8; 65536];

@@ -24,7 +24,7 @@ fn main(rt: HostRuntime) -> io::Result<()> {
     let Some(given) = desk::arguments::<usize, 2>(&rt) else {
         return desk::print_usage(
             &rt,
-            "next_read LINE K < FILE   LINE: a cache line, from 0; K: an edge, 0 to N; FILE: a task file of N basic blocks",
+            b"next_read LINE K < FILE   LINE: a cache line, from 0; K: an edge, 0 to N; FILE: a task file of N basic blocks",
         );
     };
     let mut file = [0u8; 65536];

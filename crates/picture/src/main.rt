@@ -224,7 +224,7 @@ fn main(rt: HostRuntime) -> io::Result<()> {
     if 0 < desk::argument_count(&rt) {
         return desk::print_usage(
             &rt,
-            "picture < FILE > PICTURE   FILE: a task file; PICTURE: its plan as an SVG file",
+            b"picture < FILE > PICTURE   FILE: a task file; PICTURE: its plan as an SVG file",
         );
     }
     let mut file = [0u8; 65536];

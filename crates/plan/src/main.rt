@@ -28,7 +28,7 @@ fn print_answer(rt: &impl Print, file: &[u8]) -> io::Result<()> {
 
 fn main(rt: HostRuntime) -> io::Result<()> {
     if 0 < desk::argument_count(&rt) {
-        return desk::print_usage(&rt, "plan < FILE   FILE: a task file");
+        return desk::print_usage(&rt, b"plan < FILE   FILE: a task file");
     }
     let mut file = [0u8; 65536];
     let n = desk::read_input(&rt, &mut file)?;

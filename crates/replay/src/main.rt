@@ -24,7 +24,7 @@ fn main(rt: HostRuntime) -> io::Result<()> {
     let Some(points) = desk::read_points(&rt, &mut room) else {
         return desk::print_usage(
             &rt,
-            "replay POINT.. < FILE   POINT: an edge, 1 to N - 1, each above the one before; FILE: a task file of N basic blocks",
+            b"replay POINT.. < FILE   POINT: an edge, 1 to N - 1, each above the one before; FILE: a task file of N basic blocks",
         );
     };
     let mut file = [0u8; 65536];

@@ -7,7 +7,7 @@ fn main(rt: HostRuntime) -> io::Result<()> {
     if 0 < desk::argument_count(&rt) {
         return desk::print_usage(
             &rt,
-            "show < FILE > TEXT   FILE: a task file; TEXT: the text of its task",
+            b"show < FILE > TEXT   FILE: a task file; TEXT: the text of its task",
         );
     }
     let mut file = [0u8; 65536];

@@ -53,7 +53,7 @@ fn main(rt: HostRuntime) -> io::Result<()> {
     let Some(given) = desk::arguments(&rt) else {
         return desk::print_usage(
             &rt,
-            "trace SIZE G TICKS S Q R ID < TRACE > FILE   SIZE: bytes of a memory block, from 1; G: records of a basic block, 1 to 124; TICKS: ticks of a record; S: cache lines, 1 to 512; Q: the limit in ticks; R: ticks of a reload; ID: a number; TRACE: din lines; FILE: a task file; all below 4294967296",
+            b"trace SIZE G TICKS S Q R ID < TRACE > FILE   SIZE: bytes of a memory block, from 1; G: records of a basic block, 1 to 124; TICKS: ticks of a record; S: cache lines, 1 to 512; Q: the limit in ticks; R: ticks of a reload; ID: a number; TRACE: din lines; FILE: a task file; all below 4294967296",
         );
     };
     let mut addresses = [0u32; tracing::ROOM];

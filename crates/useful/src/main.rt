@@ -21,7 +21,7 @@ fn main(rt: HostRuntime) -> io::Result<()> {
     let Some(given) = desk::arguments::<usize, 1>(&rt) else {
         return desk::print_usage(
             &rt,
-            "useful K < FILE   K: an edge, 0 to N; FILE: a task file of N basic blocks",
+            b"useful K < FILE   K: an edge, 0 to N; FILE: a task file of N basic blocks",
         );
     };
     let mut file = [0u8; 65536];

@@ -47,7 +47,7 @@ impl fmt::Display for Refused {
     }
 }
 
-// A verdict's number, 0 where it accepts.
+// A verdict's number, 0 where it accepts, for calls from C.
 pub fn verdict_number(verdict: Result<(), Refusal>) -> u32
     ensures { result ≡ verdict_number verdict }
 {
@@ -57,7 +57,7 @@ pub fn verdict_number(verdict: Result<(), Refusal>) -> u32
     }
 }
 
-// A verdict's place, 0 where it accepts.
+// A verdict's place, 0 where it accepts, for calls from C.
 pub fn verdict_place(verdict: Result<(), Refusal>) -> usize
     ensures { result ≡ verdict_place verdict }
 {

@@ -90,7 +90,7 @@ fn number_of(word: &[u8]) -> Option<u32>
 }
 
 // Reads the words of a line into an array, and answers how many there are, if all are numbers and
-// no more than there is room for.
+// no more than there is room for. An array, since the libraries have no heap.
 fn read_numbers(line: &[u8], numbers: &mut [u32; 125]) -> Option<usize>
     requires { length numbers.old ≡ 125 }
     ensures { NumbersRead (words_of line.now) numbers.new result }

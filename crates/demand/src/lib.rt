@@ -27,7 +27,7 @@ pub struct TaskRecord {
     pub region: u32,
 }
 
-// A set by value: how many tasks it has, 17 where they are more than 16, and the first 16 of them.
+// A set by value: how many tasks it has, 17 where they are more than 16, and the first 16 of them. An array, since the libraries have no heap.
 #[derive(Clone, Copy)]
 pub struct TaskSet {
     pub count: usize,

@@ -218,7 +218,7 @@ pub fn print_lines(rt: &impl Print, set: LineSet) -> io::Result<()> {
     Ok(())
 }
 
-// The line of a verdict that has no value beside it.
+// The line of a verdict that has no value beside it. `Result` is not ours, so it can't print itself.
 pub fn print_verdict(rt: &impl Print, verdict: Result<(), Refusal>) -> io::Result<()> {
     match verdict {
         Ok(()) => println!(rt; "accepted"),

@@ -28,7 +28,7 @@ pub struct Table {
 }
 
 // The regions of a list up to an edge: whether all fit, where the next region starts, their lines
-// and their cost.
+// and their cost. The walk goes on past a region that does not fit, which costs no branch.
 #[derive(Clone, Copy)]
 struct Walk {
     fits: bool,
@@ -74,6 +74,7 @@ fn evaluate_row(file: &[u8], counts: &[u8; 4096], table: &mut Table, a: usize)
     let n = taskfile::block_count(file);
     let header = taskfile::header(file);
     let mut region = CountedRegion::at(header, a);
+    // The region says where it ends: no index is counted beside it.
     while region.to < n {
         region = region.longer(file, counts);
         let weighed = region.weigh(header);

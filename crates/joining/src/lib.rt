@@ -13,7 +13,7 @@ use answers::Refused;
 use model::{Header, Refusal};
 use std::cmp::min;
 
-// Whether two accepted files have the same S, R, scratch range and G.
+// Whether two accepted files have the same S, R, scratch range and G. Their limits and ids are free, so no `==` of headers.
 fn same_board(first: &[u8], second: &[u8]) -> bool
     requires { IsAccepted first.now × IsAccepted second.now }
     ensures { result ≡ agree (task_of first.now) (task_of second.now) }

@@ -11,7 +11,7 @@ use model::Refusal;
 // The most basic blocks of a task whose lists are numbered.
 const MOST_BLOCKS: usize = 16;
 
-// The points of a list; those beyond the count are zero.
+// The points of a list; those beyond the count are zero. An array, since the libraries have no heap.
 #[derive(Clone, Copy)]
 pub struct Points {
     pub count: usize,

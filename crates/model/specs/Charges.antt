@@ -35,7 +35,7 @@ charge t ps i = total (region_charge t i) (regions (block_count t) 0 ps)
 unfoldable pub charges : Task → List ℕ → List ℕ
 charges t ps = table 32 (charge t ps)
 
--- those that a refusal carries
+-- those where a call refuses; no call hands them out
 abbrev pub no_charges : List ℕ
 no_charges = replicate 32 0
 

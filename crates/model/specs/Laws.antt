@@ -120,7 +120,7 @@ abbrev pub OneFirst : Type 0
 OneFirst =
     (n : ℕ) (fit : ℕ → ℕ → Bool) (cost : ℕ → ℕ → ℕ) (ps qs : List ℕ) → FirstOfLeast n fit cost ps → FirstOfLeast n fit cost qs → ps ≡ qs
 
--- and one answer of planning at most is right for a task, verdict and plan
+-- and one answer of planning at most is right for a task, plan or refusal
 abbrev pub OnePlan : Type 0
 OnePlan = (t : Task) (r s : Result Plan Refusal) → Planned t r → Planned t s → r ≡ s
 

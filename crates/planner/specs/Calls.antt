@@ -15,7 +15,7 @@ use Rattle.taskfile.specs.File.{IsAccepted, verdict, task_of}
 use Rattle.planblock.specs.Plans.{read_verdict, plan_of}
 use Rattle.planner.specs.declared.ChargedPlan.{ChargedPlan}
 
--- the words of a set that a refusal carries
+-- the words of the set where a call refuses; no call hands it out
 abbrev pub no_words : List ℕ
 no_words = words (λ c. false)
 

@@ -87,6 +87,7 @@ fn choose(
     let header = taskfile::header(file);
     let mut region = CountedRegion::at(header, a);
     let mut choice = Choice::untried(n);
+    // The region says where it ends: no index is counted beside it.
     while region.to < n {
         region = region.longer(file, counts);
         let weighed = region.weigh(header);

@@ -30,11 +30,12 @@ abbrev pub verdict_of : {A : Type 0} → Result A Refusal → Verdict
 verdict_of (Ok a) = accept
 verdict_of (Err x) = Err x
 
--- what the call of planning returns and leaves: lines, cost and charges of a plan that is right for the file, or a refusal that is
+-- the numbers of a plan: lines, cost and charges
 abbrev pub plan_numbers : List ℕ → Result Plan Refusal → List ℕ
 plan_numbers file (Ok p) = p.lines ∷ p.cost ∷ plan_charges file p
 plan_numbers file (Err x) = []
 
+-- what the call of planning returns and leaves: the numbers of a plan that is right for the file, or a refusal that is
 pub record PlanLeft (file out : List ℕ) (r place : ℕ) (after : List ℕ) : Type 0 where
   pub answered : Result Plan Refusal
   pub answer : PlanAnswer file answered

@@ -39,6 +39,7 @@ pub struct CountedRegion {
 }
 
 // What follows from a region's times and lines: its length, its cost and whether it fits.
+// Length and cost count where it does not fit, too, so `fits` is a field and no option.
 #[derive(Clone, Copy)]
 pub struct Weighed {
     pub length: u64,

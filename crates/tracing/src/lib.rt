@@ -386,8 +386,8 @@ impl Scan {
     }
 }
 
-// Makes a task file of a trace in din form and answers its length: 9 for the output's length, 10 for S, the size and g, 13 at the lowest malformed line, 14 for the records
-// and the times. The output begins with the file, and its bytes past that are as they were; on a refusal all are.
+// Makes a task file of a trace in din form and answers its length: 9 for the output's length, 10 for
+// S, the size and g, 13 at the lowest malformed line, 14 for the records and the times. The output begins with the file, and its bytes past that are as they were; on a refusal all are.
 pub fn trace(text: &[u8], settings: Settings, out: &mut [u8]) -> Result<usize, Refusal>
     ensures value { result ≡ trace_answer settings text.now out.old }
     ensures out_after { out.new ≡ trace_output settings text.now out.old }

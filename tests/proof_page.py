@@ -37,7 +37,12 @@ def functions(crate):
     """The text of each function of a crate, by name."""
     text = "".join(open(path, encoding="utf-8").read() for path in sorted(glob.glob(f"crates/{crate}/src/*.rt")))
     parts = re.split(r"(?m)^ *(?:pub )?(?:extern \"C\" )?fn (\w+)", text)
-    return list(zip(parts[1::2], parts[2::2]))
+    return [(name, rest) for name, rest in zip(parts[1::2], parts[2::2]) if has_body(rest)]
+
+
+def has_body(text):
+    """Whether a function is defined there, and not only declared in a trait."""
+    return next(line for line in text.splitlines() if line.endswith(("{", ";"))).endswith("{")
 
 
 def promises(text):

@@ -2,7 +2,7 @@
 // call answers its error, and what was read or printed before stays so.
 #![tactic(auto)]
 
-ghost use Rattle.std.specs.Prelude.{◌≡◌, ◌+◌, ◌≤◌, length, take, IfOk, IfSome};
+ghost use Rattle.std.specs.Prelude.{◌≡◌, ◌+◌, ◌≤◌, [], length, take, IfOk, Some, IfSome};
 ghost use Rattle.std.specs.Io.{ReadsAtMost};
 ghost use Rattle.decimals.specs.Decimals.{AtMost};
 
@@ -56,6 +56,17 @@ where
     }
 }
 
+// The same into a list, for a bound or a count that is no type's: whether they are numbers of at most so much, and as many as the list holds.
+pub fn fill_arguments(rt: &impl Env, numbers: &mut [u64], most: u64) -> bool {
+    for (i, number) in numbers.iter_mut().enumerate() {
+        let Some(given) = argument(rt, i + 1, most) else {
+            return false;
+        };
+        *number = given;
+    }
+    argument_count(rt) == numbers.len()
+}
+
 // How many arguments the program was given.
 pub fn argument_count(rt: &impl Env) -> usize {
     let mut text = [0u8; 1];
@@ -67,7 +78,7 @@ pub fn argument_count(rt: &impl Env) -> usize {
 // Puts the points that the arguments give into a list, and answers those; nothing where an argument is no number of two bytes. A well-formed list has
 // at most 63 points, so the first 64 decide at which of them a longer list is refused.
 pub fn read_points<'a>(rt: &impl Env, points: &'a mut [u16; 64]) -> Option<&'a [u16]>
-    ensures { IfSome result (λ listed. length listed.now ≤ 64) }
+    ensures { IfSome result (λ listed. AtMost 64 (Some (length listed.now))) }
 {
     let count = argument_count(rt);
     for i in 0..count {
@@ -170,7 +181,9 @@ pub struct Page<'a, P> {
 }
 
 impl<'a, P: Print> Page<'a, P> {
-    pub fn new(out: &'a P) -> Page<'a, P> {
+    pub fn new(out: &'a P) -> Page<'a, P>
+        ensures { result.text.items ≡ [] }
+    {
         Page {
             out,
             text: ArrayVec::new(),

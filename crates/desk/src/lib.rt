@@ -2,7 +2,7 @@
 // call answers its error, and what was read or printed before stays so.
 #![tactic(auto)]
 
-ghost use Rattle.std.specs.Prelude.{◌≡◌, ◌+◌, ◌≤◌, [], length, take, IfOk, Some, IfSome};
+ghost use Rattle.std.specs.Prelude.{◌≡◌, ◌+◌, ◌<◌, ◌≤◌, ℕ, true, [], length, get_or, take, IfOk, Some, IfSome};
 ghost use Rattle.std.specs.Io.{ReadsAtMost};
 ghost use Rattle.decimals.specs.Decimals.{AtMost};
 
@@ -57,12 +57,15 @@ where
 }
 
 // The same into a list, for a bound or a count that is no type's: whether they are numbers of at most so much, and as many as the list holds.
-pub fn fill_arguments(rt: &impl Env, numbers: &mut [u64], most: u64) -> bool {
-    for (i, number) in numbers.iter_mut().enumerate() {
+pub fn fill_arguments(rt: &impl Env, numbers: &mut [u64], most: u64) -> bool
+    ensures kept { length numbers.new ≡ length numbers.old }
+    ensures at_most { result ≡ true → (i : ℕ) → i < length numbers.new → get_or numbers.new i 0 ≤ most }
+{
+    for i in 0..numbers.len() {
         let Some(given) = argument(rt, i + 1, most) else {
             return false;
         };
-        *number = given;
+        numbers[i] = given;
     }
     argument_count(rt) == numbers.len()
 }

@@ -56,8 +56,8 @@ where
     }
 }
 
-// Fills a list with the arguments. Answers whether there are as many as the list holds, each a number
-// of at most `most`. For a count or a bound that only the running caller knows; else `arguments`.
+// Fills a list with the arguments. Answers whether there are as many as the list holds, each a
+// number of at most `most`. For a count or a bound known only at run time; else use `arguments`.
 pub fn fill_arguments(rt: &impl Env, numbers: &mut [u64], most: u64) -> bool
     ensures kept { length numbers.new ≡ length numbers.old }
     ensures at_most { result ≡ true → (i : ℕ) → i < length numbers.new → get_or numbers.new i 0 ≤ most }
